@@ -1,0 +1,8 @@
+-- Laws that several functions' proofs cite.
+pub mod Nan
+pub mod Whole
+pub mod Floor
+pub mod Patterns
+pub mod Order
+pub mod Fill
+pub mod Agree
