@@ -1,0 +1,81 @@
+-- Exactly when a refusal is given: where its case holds and no earlier one does; and there is an answer exactly where no case holds.
+-- Assumes nothing.
+use Prim.Native.Nat.{ℕ, zero, suc, _<_}
+use mathlib.Core.Path.{_≡_, refl, sym, ap, _∙_, subst}
+use mathlib.Core.Bool.{Bool, true, false, cond, not, _&&_, true≢false}
+use mathlib.Core.List.{List, [], _∷_}
+use native.Mathlib.Omega.{arith}
+use lib.Dec.{T, eqb, eqb-refl}
+use lib.ListN.{length}
+use Rattle.refusal.specs.declared.Refusal.{Refusal}
+use Rattle.refusal.specs.Numbers.{numberOf}
+use Rattle.refusal.specs.Order.{Case, firstOf, First, None, given, without, apart}
+
+and-left : (a b : Bool) → T (a && b) → T a
+and-left true b t = tt
+and-left false b t = t
+
+and-right : (a b : Bool) → T (a && b) → T b
+and-right true b t = t
+and-right false b t = absurd t
+
+-- a test holds or it does not
+pub by-test : {X : Type 0} (b : Bool) → (b ≡ true → X) → (b ≡ false → X) → X
+by-test true f g = f refl
+by-test false f g = g refl
+
+not-both : (b : Bool) → T b → T (not b) → ⊥
+not-both true t u = u
+not-both false t u = t
+
+-- a list without a number does not give a refusal of that number
+differs : (n : ℕ) (cs : List Case) (i : ℕ) → T (without n cs) → i < length cs → numberOf (given cs i) ≡ n → ⊥
+differs n [] i w l e = omega arith
+differs n (c ∷ cs) zero w l e =
+    not-both (eqb n (numberOf (c .gives))) (subst (λ (k : ℕ). T (eqb n k)) (sym e) (eqb-refl n))
+    (and-left (not (eqb n (numberOf (c .gives)))) (without n cs) w)
+differs n (c ∷ cs) (suc i) w l e =
+    differs n cs i (and-right (not (eqb n (numberOf (c .gives)))) (without n cs) w) (omega arith) e
+
+module _ {A : Type 0} (refused : Refusal → A) (answer : A) (one : (r s : Refusal) → refused r ≡ refused s → r ≡ s) (other : (r : Refusal) → answer ≡ refused r → ⊥) where
+  -- one case, by its test
+  turn : (c : Case) (cs : List Case) (b : Bool) → c .holds ≡ b
+      → firstOf (c ∷ cs) refused answer ≡ cond b (refused (c .gives)) (firstOf cs refused answer)
+  turn c cs b q = ap (λ (t : Bool). cond t (refused (c .gives)) (firstOf cs refused answer)) q
+
+  -- where case i is the first that holds, its refusal is given
+  pub given-where : (cs : List Case) (i : ℕ) → First cs i → firstOf cs refused answer ≡ refused (given cs i)
+  given-where [] i f = absurd f
+  given-where (c ∷ cs) zero f = turn c cs true f
+  given-where (c ∷ cs) (suc i) f = turn c cs false (f .0) ∙ given-where cs i (f .1)
+
+  -- cases of other numbers do not give a refusal
+  never : (r : Refusal) (cs : List Case) → T (without (numberOf r) cs) → firstOf cs refused answer ≡ refused r → ⊥
+  never r [] w h = other r h
+  never r (d ∷ ds) w h =
+      by-test (d .holds)
+      (λ q. differs (numberOf r) (d ∷ ds) 0 w (omega arith) (ap numberOf (one (d .gives) r (sym (turn d ds true q) ∙ h))))
+      (λ q. never r ds (and-right (not (eqb (numberOf r) (numberOf (d .gives)))) (without (numberOf r) ds) w) (sym (turn d ds false q) ∙ h))
+
+  -- and only there
+  pub given-only : (cs : List Case) (i : ℕ) → T (apart cs) → i < length cs → firstOf cs refused answer ≡ refused (given cs i) → First cs i
+  given-only [] i a l e = omega arith
+  given-only (c ∷ cs) zero a l e =
+      by-test (c .holds) (λ q. q)
+      (λ q. absurd (never (c .gives) cs (and-left (without (numberOf (c .gives)) cs) (apart cs) a) (sym (turn c cs false q) ∙ e)))
+  given-only (c ∷ cs) (suc i) a l e =
+      by-test (c .holds)
+      (λ q. absurd (differs (numberOf (c .gives)) cs i (and-left (without (numberOf (c .gives)) cs) (apart cs) a) (omega arith)
+      (ap numberOf (sym (one (c .gives) (given cs i) (sym (turn c cs true q) ∙ e))))))
+      (λ q. (q, given-only cs i (and-right (without (numberOf (c .gives)) cs) (apart cs) a) (omega arith) (sym (turn c cs false q) ∙ e)))
+
+  -- where no case holds there is the answer
+  pub answer-where : (cs : List Case) → None cs → firstOf cs refused answer ≡ answer
+  answer-where [] n = refl
+  answer-where (c ∷ cs) n = turn c cs false (n .0) ∙ answer-where cs (n .1)
+
+  -- and only there
+  pub answer-only : (cs : List Case) → firstOf cs refused answer ≡ answer → None cs
+  answer-only [] e = tt
+  answer-only (c ∷ cs) e =
+      by-test (c .holds) (λ q. absurd (other (c .gives) (sym e ∙ turn c cs true q))) (λ q. (q, answer-only cs (sym (turn c cs false q) ∙ e)))

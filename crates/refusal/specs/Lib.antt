@@ -1,0 +1,3 @@
+-- What the contracts of `refusal` cite, and the rule by which an order of tests gives one refusal.
+pub mod Numbers
+pub mod Order
