@@ -5,3 +5,6 @@ pub mod Pigeons
 pub mod SecondTime
 pub mod Counting
 pub mod Heading
+pub mod Naming
+pub mod Summing
+pub mod Cursors

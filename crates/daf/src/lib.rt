@@ -5,11 +5,11 @@ ghost use Prim.Native.Nat.{_+_, _*_, _≤_, _<_};
 ghost use lib.ListN.{length};
 ghost use Rattle.daf.specs.FileRecord.{spells, niOf, shaped, fileRecord};
 ghost use Rattle.daf.specs.Walk.{nextOf, countOf, pastEnd, walk};
-
+ghost use Rattle.daf.specs.Summaries.{place, spkSummary, pckSummary, summaryOf};
 ghost use Rattle.daf.specs.Opening.{opening};
-
+ghost use Rattle.daf.specs.Names.{nameOf, ascii, kept, isNul, isSpace};
 ghost use Rattle.daf.specs.Addresses.{doubleOfAddress, wholeDoubles};
-ghost use Rattle.daf.specs.Reading.{Sound, walkedOf, walkOpened, countedOf};
+ghost use Rattle.daf.specs.Reading.{Sound, walkedOf, walkOpened, countedOf, seekOf, Standing, nextCursor};
 
 use refusal::Refusal;
 
@@ -228,6 +228,198 @@ pub fn open(kernel: &[u8], family: Family, limit: usize) -> Opened
         Head::Refused(refusal) => Opened::Refused(refusal),
         Head::First(first) => open_from(kernel, first, limit),
     }
+}
+
+// The summary of an SPK whose bytes start at `at`.
+fn spk_summary(kernel: &[u8], at: usize, name_at: usize) -> Summary
+    requires { ⌜ at + 40 ≤ length (now kernel) ⌝ }
+    ensures { λ r. ⌜ r ≡ spkSummary (now (kernel .entry)) at «name_at» ⌝ }
+{
+    Summary {
+        first: bits::double_at(kernel, at),
+        last: bits::double_at(kernel, at + 8),
+        target: bits::le_i32(kernel, at + 16),
+        center: bits::le_i32(kernel, at + 20),
+        frame: bits::le_i32(kernel, at + 24),
+        data_type: bits::le_i32(kernel, at + 28),
+        start: bits::le_i32(kernel, at + 32),
+        end: bits::le_i32(kernel, at + 36),
+        name_at: name_at,
+    }
+}
+
+// The summary of a PCK whose bytes start at `at`.
+fn pck_summary(kernel: &[u8], at: usize, name_at: usize) -> Summary
+    requires { ⌜ at + 40 ≤ length (now kernel) ⌝ }
+    ensures { λ r. ⌜ r ≡ pckSummary (now (kernel .entry)) at «name_at» ⌝ }
+{
+    Summary {
+        first: bits::double_at(kernel, at),
+        last: bits::double_at(kernel, at + 8),
+        target: bits::le_i32(kernel, at + 16),
+        center: 0,
+        frame: bits::le_i32(kernel, at + 20),
+        data_type: bits::le_i32(kernel, at + 24),
+        start: bits::le_i32(kernel, at + 28),
+        end: bits::le_i32(kernel, at + 32),
+        name_at: name_at,
+    }
+}
+
+// Summary `index` of record `rec`.
+pub fn summary_at(kernel: &[u8], family: Family, rec: u32, index: usize) -> Summary
+    requires { ⌜ (1 ≤ rec) × (1024 * (rec + 1) ≤ length (now kernel)) × (index < 25) ⌝ }
+    ensures { λ r. ⌜ r ≡ summaryOf family (now (kernel .entry)) (place rec index) ⌝ }
+{
+    let at = Daf::RECORD * (rec as usize - 1) + 24 + 40 * index;
+    let name_at = Daf::RECORD * (rec as usize) + 40 * index;
+    match family {
+        Family::Spk => spk_summary(kernel, at, name_at),
+        Family::Pck => pck_summary(kernel, at, name_at),
+    }
+}
+
+// The first summary of `left` records from r on.
+fn seek(kernel: &[u8], first: u32, records: usize) -> Cursor
+    requires { ⌜ Sound (now kernel) first records ⌝ }
+    ensures { λ c. ⌜ c ≡ seekOf (now (kernel .entry)) first records ⌝ }
+{
+    let mut r = first;
+    let mut left = records;
+    while 0 < left {
+        let count = count_of(kernel, r);
+        if 0 < count {
+            return Cursor {
+                rec: r,
+                index: 0,
+                count: count as usize,
+                left: left - 1,
+            };
+        }
+        r = next_record(kernel, r);
+        left -= 1;
+    }
+    Cursor {
+        rec: 0,
+        index: 0,
+        count: 0,
+        left: 0,
+    }
+}
+
+impl Daf {
+    // The first summary of an opened DAF.
+    pub fn start(self, kernel: &[u8]) -> Cursor
+        requires { ⌜ Sound (now kernel) (self .first) (self .records) ⌝ }
+        ensures { λ c. ⌜ c ≡ seekOf (now (kernel .entry)) (self .first) (self .records) ⌝ }
+    {
+        let first = self.first;
+        let records = self.records;
+        seek(kernel, first, records)
+    }
+}
+
+impl Cursor {
+    // The summary behind this one.
+    pub fn next(self, kernel: &[u8]) -> Cursor
+        requires { ⌜ Standing (now kernel) self × (self .index < self .count) ⌝ }
+        ensures { λ c. ⌜ c ≡ nextCursor (now (kernel .entry)) self ⌝ }
+    {
+        let rec = self.rec;
+        let index = self.index;
+        let count = self.count;
+        let left = self.left;
+        if index + 1 < count {
+            return Cursor {
+                rec: rec,
+                index: index + 1,
+                count: count,
+                left: left,
+            };
+        }
+        let r = next_record(kernel, rec);
+        seek(kernel, r, left)
+    }
+}
+
+// How many of n bytes from `at` on are left without trailing NULs.
+fn without_nuls(kernel: &[u8], at: usize, n: usize) -> usize
+    requires { ⌜ at + n ≤ length (now kernel) ⌝ }
+    ensures { λ r. ⌜ r ≡ kept isNul (now (kernel .entry)) at n ⌝ }
+{
+    let mut i = n;
+    while 0 < i {
+        let k = i - 1;
+        if kernel[at + k] != 0 {
+            return i;
+        }
+        i = k;
+    }
+    0
+}
+
+// Bytes 9 to 13 and 32.
+fn is_space(b: u8) -> bool
+    ensures { λ r. ⌜ r ≡ isSpace b ⌝ }
+{
+    if b == 32 {
+        return true;
+    }
+    if b < 9 {
+        return false;
+    }
+    b <= 13
+}
+
+// How many of n bytes from `at` on are left without trailing spaces.
+fn without_spaces(kernel: &[u8], at: usize, n: usize) -> usize
+    requires { ⌜ at + n ≤ length (now kernel) ⌝ }
+    ensures { λ r. ⌜ r ≡ kept isSpace (now (kernel .entry)) at n ⌝ }
+{
+    let mut i = n;
+    while 0 < i {
+        let k = i - 1;
+        if !is_space(kernel[at + k]) {
+            return i;
+        }
+        i = k;
+    }
+    0
+}
+
+// The n bytes from `at` on are below 128.
+fn is_ascii(kernel: &[u8], at: usize, n: usize) -> bool
+    requires { ⌜ at + n ≤ length (now kernel) ⌝ }
+    ensures { λ r. ⌜ r ≡ ascii (now (kernel .entry)) at n ⌝ }
+{
+    let mut i = n;
+    while 0 < i {
+        let k = i - 1;
+        if 128 <= kernel[at + k] {
+            return false;
+        }
+        i = k;
+    }
+    true
+}
+
+// The name whose 40 bytes start at `at`: that part of the lent kernel itself, for any place.
+pub fn name(kernel: &[u8], at: usize) -> &[u8]
+    ensures { λ r. ⌜ now r ≡ nameOf (now (kernel .entry)) at ⌝ }
+{
+    let len = kernel.len();
+    if len < 40 {
+        return &kernel[0..0];
+    }
+    if len - 40 < at {
+        return &kernel[0..0];
+    }
+    if !is_ascii(kernel, at, 40) {
+        return &kernel[0..0];
+    }
+    let n = without_spaces(kernel, at, without_nuls(kernel, at, 40));
+    let end = at + n;
+    &kernel[at..end]
 }
 
 // A double by its address.
