@@ -1225,6 +1225,10 @@ class Memory(Base):
         got, memory = self.ask_with(0, 4, 5)
         self.assertEqual((got.segment, memory), (3, 0))
 
+    def test_remembered_must_be_marked(self):
+        got, memory = self.ask_with(2, 4, 5)
+        self.assertEqual((got.segment, memory), (3, 2))
+
     def test_remembered_must_serve(self):
         self.table.segments[2].marked = True
         self.assertEqual(self.ask_with(2, 5, 4)[0].way, "reversed")
