@@ -8,3 +8,4 @@ pub mod Heading
 pub mod Naming
 pub mod Summing
 pub mod Cursors
+pub mod Begun

@@ -10,7 +10,6 @@ ghost use Rattle.daf.specs.Opening.{opening};
 ghost use Rattle.daf.specs.Names.{nameOf, ascii, kept, isNul, isSpace};
 ghost use Rattle.daf.specs.Addresses.{doubleOfAddress, wholeDoubles};
 ghost use Rattle.daf.specs.Reading.{Sound, walkedOf, walkOpened, countedOf, seekOf, Standing, nextCursor};
-
 use refusal::Refusal;
 
 // Which kernel a DAF is: it decides what a summary holds.

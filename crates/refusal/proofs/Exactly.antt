@@ -93,3 +93,10 @@ module _ {A : Type 0} (refused : Refusal → A) (answer : A) (one : (r s : Refus
   answer-only [] e = tt
   answer-only (c ∷ cs) e =
       by-test (c .holds) (λ q. absurd (other (c .gives) (sym e ∙ turn refused answer c cs true q))) (λ q. (q, answer-only cs (sym (turn refused answer c cs false q) ∙ e)))
+
+  -- what is no refusal is the answer, and then no case holds
+  pub answered : (cs : List Case) (x : A) → firstOf cs refused answer ≡ x → ((r : Refusal) → x ≡ refused r → ⊥) → None cs × (answer ≡ x)
+  answered [] x e n = (tt, e)
+  answered (c ∷ cs) x e n =
+      by-test (c .holds) (λ q. absurd (n (c .gives) (sym e ∙ turn refused answer c cs true q)))
+      (λ q. let rest = answered cs x (sym (turn refused answer c cs false q) ∙ e) n in ((q, rest .0), rest .1))

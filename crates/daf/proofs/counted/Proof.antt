@@ -54,8 +54,7 @@ loop-less c = omega arith
 
 loop-again : tie.Need-loop-again Inv-loop μ-loop
 loop-again c =
-    let few : countOf (now (c .before .before .before .before .before .before .args .kernel)) (c .before .before .before .before .loop .r) ≤ 25 = subst (λ (x : ℕ). x ≤ 25) (c .before .before .count-of .ensures) (c .before .if1 .left) in
-    (
+    let few : countOf (now (c .before .before .before .before .before .before .args .kernel)) (c .before .before .before .before .loop .r) ≤ 25 = subst (λ (x : ℕ). x ≤ 25) (c .before .before .count-of .ensures) (c .before .if1 .left) in (
       omega arith,
       omega arith,
       sound-next _ _ _ (c .before .before .before .before .loop .left - 1) _ (omega arith) (c .next-record .ensures) (c .before .before .before .before .loop .inv .2),

@@ -52,8 +52,8 @@ loop-again c = (
   refl,
   omega arith,
   c .before .before .before .before .before .loop .inv .2
-  ∙ counting-next _ _ _ _ _ (omega arith) (c .before .before .before .before .loop-test .taken)
-  (sym (c .before .before .before .past-end .ensures) ∙ c .before .before .if1 .left) (c .next-record .ensures),
+      ∙ counting-next _ _ _ _ _ (omega arith) (c .before .before .before .before .loop-test .taken)
+      (sym (c .before .before .before .past-end .ensures) ∙ c .before .before .if1 .left) (c .next-record .ensures),
 )
 
 returns-3 : tie.Need-returns-3 Inv-loop μ-loop
