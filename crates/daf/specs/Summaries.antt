@@ -1,0 +1,76 @@
+-- The summaries of the records walked, in file order, and what one holds.
+use Prim.Native.Nat.{ℕ, zero, suc, _+_, _*_}
+use mathlib.Core.Bool.{Bool, false, _||_}
+use mathlib.Core.List.{List, [], _∷_, _++_}
+use lib.Dec.{ltb}
+use lib.IntN.{ℤ, pos}
+use Rattle.bits.specs.Bytes.{le32, signed32, doubleAt}
+use Rattle.daf.specs.Walk.{recordAt, countOf}
+use Rattle.daf.specs.declared.Family.{Family}
+use Rattle.daf.specs.declared.Family.the-variants.{Spk, Pck}
+use Rattle.daf.specs.declared.Place.{Place}
+use Rattle.daf.specs.declared.Summary.{Summary}
+
+-- A count of one of these records is over 25.
+unfoldable pub anyOver25 : List ℕ → List ℕ → Bool
+anyOver25 k [] = false
+anyOver25 k (r ∷ rs) = ltb 25 (countOf k r) || anyOver25 k rs
+
+-- The sum of their counts.
+unfoldable pub total : List ℕ → List ℕ → ℕ
+total k [] = 0
+total k (r ∷ rs) = countOf k r + total k rs
+
+-- Summary i of record r.
+abbrev pub place : ℕ → ℕ → Place
+place r i = record { rec = r; index = i }
+
+-- The places of n summaries of record r, from number i on.
+unfoldable pub placesIn : ℕ → ℕ → ℕ → List Place
+placesIn r i zero = []
+placesIn r i (suc n) = place r i ∷ placesIn r (suc i) n
+
+-- The places of all summaries of these records, in file order: summary number n of the file stands at the nth.
+unfoldable pub places : List ℕ → List ℕ → List Place
+unfolding placesIn
+places k [] = []
+places k (r ∷ rs) = placesIn r 0 (countOf k r) ++ places k rs
+
+-- Summaries of 40 bytes follow from byte 24 of their record.
+abbrev pub summaryAt : Place → ℕ
+summaryAt p = recordAt (p .rec) + 24 + 40 * p .index
+
+-- Name i is bytes 40 i to 40 i + 39 of the next record.
+abbrev pub nameAt : Place → ℕ
+nameAt p = recordAt (p .rec + 1) + 40 * p .index
+
+-- Whole number j of the summary at byte s, behind its two doubles.
+abbrev pub wholeAt : List ℕ → ℕ → ℕ → ℤ
+wholeAt k s j = signed32 (le32 k (s + 16 + 4 * j))
+
+-- The summary at a place. A PCK's body frame stands as the target and its reference frame as the frame; it has no center.
+abbrev pub summaryOf : Family → List ℕ → Place → Summary
+summaryOf Spk k p =
+    record {
+      first = doubleAt k (summaryAt p);
+      last = doubleAt k (summaryAt p + 8);
+      target = wholeAt k (summaryAt p) 0;
+      center = wholeAt k (summaryAt p) 1;
+      frame = wholeAt k (summaryAt p) 2;
+      «data_type» = wholeAt k (summaryAt p) 3;
+      start = wholeAt k (summaryAt p) 4;
+      end = wholeAt k (summaryAt p) 5;
+      «name_at» = nameAt p;
+    }
+summaryOf Pck k p =
+    record {
+      first = doubleAt k (summaryAt p);
+      last = doubleAt k (summaryAt p + 8);
+      target = wholeAt k (summaryAt p) 0;
+      center = pos 0;
+      frame = wholeAt k (summaryAt p) 1;
+      «data_type» = wholeAt k (summaryAt p) 2;
+      start = wholeAt k (summaryAt p) 3;
+      end = wholeAt k (summaryAt p) 4;
+      «name_at» = nameAt p;
+    }
