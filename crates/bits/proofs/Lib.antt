@@ -7,3 +7,4 @@ pub mod Patterns
 pub mod Order
 pub mod Fill
 pub mod Agree
+pub mod Tests
