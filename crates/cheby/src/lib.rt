@@ -3,7 +3,6 @@ ghost use mathlib.Core.Path.{_≡_};
 ghost use Prim.Native.Nat.{_+_, _*_, _≤_};
 ghost use lib.ListN.{length};
 ghost use Rattle.cheby.specs.Cheby.{recordFor, type2Of, type3Of};
-
 use frame::State;
 
 // What a type 2 record gives.

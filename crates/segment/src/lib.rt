@@ -2,9 +2,12 @@
 // A table may be forged: evaluation repeats the tests, and reads within the segment's own bounds only.
 ghost use mathlib.Core.Path.{_≡_};
 ghost use Prim.Native.Nat.{_+_, _*_, _^_, _≤_, _<_};
+ghost use lib.Dec.{T};
+ghost use lib.IntN.{natAbs};
+ghost use lib.Signed.{nonNeg};
 ghost use lib.ListN.{length};
 ghost use Rattle.daf.specs.Addresses.{wholeDoubles, doubleOfAddress};
-ghost use Rattle.segment.specs.Kinds.{formOf, wholeNumber, recordsAt, statesAt, trailerAt, kindWith, typeIn, trailerIn, sameTrailer, sameKind};
+ghost use Rattle.segment.specs.Kinds.{formOf, handled, wholeNumber, recordsAt, statesAt, trailerAt, kindWith, typeIn, trailerIn, sameTrailer, sameKind};
 ghost use Rattle.segment.specs.Malformed.{limitNan, misplaced, trailerSize, coefficients, badSize, badInterval, overruns, badRecords, badLength, badStates, badTrailer, found, segmentWith, judged};
 //ghost use Rattle.segment.specs.Evaluating.{unfit, evaluated};
 use daf::Family;
@@ -144,7 +147,23 @@ fn limit_nan(s: Segment) -> bool
     s.first != s.first || s.last != s.last
 }
 
-// The segment's addresses are out of order or past the kernel's whole doubles.
+// A segment's first address.
+fn start_of(s: Segment) -> usize
+    requires { ⌜ T (nonNeg (s .start)) ⌝ }
+    ensures { λ r. ⌜ (r ≡ natAbs (s .start)) × (r < 2 ^ 31) ⌝ }
+{
+    s.start as usize
+}
+
+// Its last.
+fn end_of(s: Segment) -> usize
+    requires { ⌜ T (nonNeg (s .end)) ⌝ }
+    ensures { λ r. ⌜ (r ≡ natAbs (s .end)) × (r < 2 ^ 31) ⌝ }
+{
+    s.end as usize
+}
+
+// Start under 1, end under start, or end past the whole doubles of the kernel.
 fn misplaced(s: Segment, whole: usize) -> bool
     ensures { λ r. ⌜ r ≡ misplaced whole (s .start) (s .end) ⌝ }
 {
@@ -154,7 +173,7 @@ fn misplaced(s: Segment, whole: usize) -> bool
     if s.end < s.start {
         return true;
     }
-    whole < s.end as usize
+    whole < end_of(s)
 }
 
 // A trailer's number made whole.
@@ -343,6 +362,19 @@ fn bad_trailer(form: Form, t: Trailer, len: u64) -> bool
     }
 }
 
+// The form is a handled one.
+fn handled(form: Form) -> bool
+    ensures { λ r. ⌜ r ≡ handled form ⌝ }
+{
+    match form {
+        Form::Other => false,
+        Form::Two => true,
+        Form::Three => true,
+        Form::Nine => true,
+        Form::Thirteen => true,
+    }
+}
+
 // How many doubles the trailer has.
 fn trailer_size(form: Form) -> u64
     ensures { λ r. ⌜ r ≡ trailerSize form ⌝ }
@@ -364,14 +396,14 @@ fn find(kernel: &[u8], family: Family, s: Segment) -> Found
         return Found::Malformed;
     }
     let form = form_of(family, s);
-    if let Form::Other = form {
+    if !handled(form) {
         return Found::Kind(Kind::Unsupported);
     }
     if misplaced(s, daf::whole_doubles(kernel)) {
         return Found::Malformed;
     }
-    let end = s.end as usize;
-    let len = (end + 1 - s.start as usize) as u64;
+    let end = end_of(s);
+    let len = (end + 1 - start_of(s)) as u64;
     if len < trailer_size(form) {
         return Found::Malformed;
     }

@@ -1,92 +1,121 @@
+-- `segment::find` meets its contract: each test in its turn. What one shows is a lemma at the place behind it. Assumes nothing.
+use Prim.Native.Nat.{ℕ}
+use mathlib.Core.Path.{_≡_, sym, ap, _∙_}
+use mathlib.Core.Bool.{true, false}
+use native.Mathlib.Omega.{arith}
 use borrow.Author.Needs.{needs}
+use borrow.Author.Tests.{not-true, not-false}
+use Rattle.daf.specs.Addresses.{wholeDoubles}
+use Rattle.segment.specs.Kinds.{formOf, handled}
+use Rattle.segment.specs.Malformed.{limitNan, misplaced}
+use Rattle.segment.specs.declared.Found.the-variants.{Kind as Makes}
+use Rattle.segment.proofs.Numbers.{under-size, over-size}
+use Rattle.segment.proofs.Placed.{Placed, placed}
+use Rattle.segment.proofs.Finding.{found-nan, found-other, found-misplaced, found-short, found-trailer}
 use Rattle.segment.proofs.find.Statement.{statement}
 use Rattle.segment.proofs.find.Tie as tie
-use Rattle.segment.proofs.find.Reads as reads
-use Rattle.segment.proofs.find.Lts as lts
-use Rattle.daf.proofs.whole_doubles.Reads as whole-doubles-reads
-use Rattle.segment.proofs.bad_trailer.Reads as bad-trailer-reads
-use Rattle.segment.proofs.form_of.Reads as form-of-reads
-use Rattle.segment.proofs.kind_with.Reads as kind-with-reads
-use Rattle.segment.proofs.limit_nan.Reads as limit-nan-reads
-use Rattle.segment.proofs.misplaced.Reads as misplaced-reads
-use Rattle.segment.proofs.trailer_at.Reads as trailer-at-reads
-use Rattle.segment.proofs.trailer_size.Reads as trailer-size-reads
 
--- src/lib.rt:363:8
+-- no limit is NaN
+numbers : (c : tie.Else2) → limitNan (c .before .before .before .before .before .before .args .s .first) (c .before .before .before .before .before .before .args .s .last) ≡ false
+numbers c = sym (c .before .before .before .before .limit-nan .ensures) ∙ c .before .before .before .if1 .left
+
+-- the type is handled
+is-handled : (c : tie.Else2) → handled (formOf (c .before .before .before .before .before .before .args .family) (c .before .before .before .before .before .before .args .s .«data_type»)) ≡ true
+is-handled c = sym (c .before .handled .ensures ∙ ap handled (c .before .before .form-of .ensures)) ∙ not-false _ (c .if2 .left)
+
+-- the addresses are in order
+not-misplaced : (c : tie.Else3)
+    → let a = c .before .before .before .before .before .before .before .before .before .args in
+    misplaced (wholeDoubles (a .kernel .now)) (a .s .start) (a .s .end) ≡ false
+not-misplaced c =
+    let s = c .before .before .before .before .before .before .before .before .before .args .s in
+    sym (c .before .misplaced .ensures ∙ ap (λ (n : ℕ). misplaced n (s .start) (s .end)) (c .before .before .whole-doubles .ensures)) ∙ c .if3 .left
+
+within : (c : tie.Else3)
+    → let a = c .before .before .before .before .before .before .before .before .before .args in Placed (wholeDoubles (a .kernel .now)) (a .s .start) (a .s .end)
+within c = placed _ _ _ (not-misplaced c)
+
 limit-nan-requires : tie.Need-limit-nan-requires
 limit-nan-requires c κs = search needs
 
--- src/lib.rt:364:9
 returns : tie.Need-returns
-returns c = ?
+returns c = found-nan _ _ _ (sym (c .before .limit-nan .ensures) ∙ c .if1 .taken)
 
--- src/lib.rt:366:9
 form-of-requires : tie.Need-form-of-requires
 form-of-requires c κs = search needs
 
--- src/lib.rt:368:28
-enum-told : tie.Need-enum-told
-enum-told c = search needs
+handled-requires : tie.Need-handled-requires
+handled-requires c κs = search needs
 
--- src/lib.rt:368:9
 returns-2 : tie.Need-returns-2
-returns-2 c = ?
+returns-2 c =
+    found-other _ _ _ (sym (c .before .before .before .before .limit-nan .ensures) ∙ c .before .before .before .if1 .left)
+    (sym (c .before .handled .ensures ∙ ap handled (c .before .before .form-of .ensures)) ∙ not-true _ (c .if2 .taken))
 
--- src/lib.rt:370:21
 whole-doubles-requires : tie.Need-whole-doubles-requires
 whole-doubles-requires c κs = search needs
 
--- src/lib.rt:370:8
 misplaced-requires : tie.Need-misplaced-requires
 misplaced-requires c κs = search needs
 
--- src/lib.rt:371:9
 returns-3 : tie.Need-returns-3
-returns-3 c = ?
+returns-3 c =
+    let a = c .before .before .before .before .before .before .before .before .before .args in
+    found-misplaced _ _ _ (numbers (c .before .before .before)) (is-handled (c .before .before .before))
+    (sym (c .before .misplaced .ensures ∙ ap (λ (n : ℕ). misplaced n (a .s .start) (a .s .end)) (c .before .before .whole-doubles .ensures)) ∙ c .if3 .taken)
 
--- src/lib.rt:373:15
-cast-end : tie.Need-cast-end
-cast-end c = ?
+end-of-requires : tie.Need-end-of-requires
+end-of-requires c κs = within c .end-count
 
--- src/lib.rt:374:16
 add-len : tie.Need-add-len
-add-len c = ?
+add-len c = search needs
 
--- src/lib.rt:374:26
-cast-len : tie.Need-cast-len
-cast-len c = ?
+start-of-requires : tie.Need-start-of-requires
+start-of-requires c κs = within (c .before) .start-count
 
--- src/lib.rt:374:16
 sub-len : tie.Need-sub-len
-sub-len c = ?
+sub-len c = let p = within (c .before .before) in omega (arith, p .order, c .start-of .ensures .0, c .before .end-of .ensures .0)
 
--- src/lib.rt:375:14
 trailer-size-requires : tie.Need-trailer-size-requires
 trailer-size-requires c κs = search needs
 
--- src/lib.rt:376:9
 returns-4 : tie.Need-returns-4
-returns-4 c = ?
+returns-4 c =
+    let d = c .before .before .before .before in
+    found-short _ _ _ (numbers (d .before .before .before)) (is-handled (d .before .before .before)) (not-misplaced d) _ _ _ (d .before .before .before .before .before .form-of .ensures) (c .before .before .start-of .ensures .0)
+    (c .before .before .before .end-of .ensures .0) (under-size _ _ _ (c .before .trailer-size .ensures) (c .if4 .taken))
 
--- src/lib.rt:378:9
 trailer-at-requires : tie.Need-trailer-at-requires
-trailer-at-requires c κs = ?
+trailer-at-requires c κs =
+    let p = within (c .before .before .before .before) in (
+      omega (arith, p .order, p .from, c .if4 .left, c .before .trailer-size .ensures, c .before .before .start-of .ensures .0, c .before .before .before .end-of .ensures .0),
+      omega (arith, p .within, c .before .before .before .end-of .ensures .0),
+    )
 
--- src/lib.rt:379:8
 bad-trailer-requires : tie.Need-bad-trailer-requires
-bad-trailer-requires c κs = ?
+bad-trailer-requires c κs =
+    let p = within (c .before .before .before .before .before) in
+    omega (arith, p .from, c .before .before .before .start-of .ensures .0, c .before .before .before .before .end-of .ensures .1)
 
--- src/lib.rt:380:9
 returns-5 : tie.Need-returns-5
-returns-5 c = ?
+returns-5 c =
+    let d = c .before .before .before .before .before .before .before in
+    sym
+    (found-trailer _ _ _ (numbers (d .before .before .before)) (is-handled (d .before .before .before)) (not-misplaced d) _ _ _ (d .before .before .before .before .before .form-of .ensures) (c .before .before .before .before .before .start-of .ensures .0)
+    (c .before .before .before .before .before .before .end-of .ensures .0) _ true (over-size _ _ _ (c .before .before .before .before .trailer-size .ensures) (c .before .before .before .if4 .left)) (c .before .before .trailer-at .ensures)
+    (sym (c .before .bad-trailer .ensures) ∙ c .if5 .taken))
 
--- src/lib.rt:382:17
 kind-with-requires : tie.Need-kind-with-requires
 kind-with-requires c κs = search needs
 
--- src/lib.rt:360:1
 returns-6 : tie.Need-returns-6
-returns-6 c = ?
+returns-6 c =
+    let d = c .before .before .before .before .before .before .before .before in
+    ap Makes (c .kind-with .ensures)
+    ∙ sym
+    (found-trailer _ _ _ (numbers (d .before .before .before)) (is-handled (d .before .before .before)) (not-misplaced d) _ _ _ (d .before .before .before .before .before .form-of .ensures) (c .before .before .before .before .before .before .start-of .ensures .0)
+    (c .before .before .before .before .before .before .before .end-of .ensures .0) _ false (over-size _ _ _ (c .before .before .before .before .before .trailer-size .ensures) (c .before .before .before .before .if4 .left)) (c .before .before .before .trailer-at .ensures)
+    (sym (c .before .before .bad-trailer .ensures) ∙ c .before .if5 .left))
 
 pub find-spec : {M : Type 1} → statement M
 find-spec =
@@ -95,14 +124,14 @@ find-spec =
     limit-nan-requires
     returns
     form-of-requires
-    enum-told
+    handled-requires
     returns-2
     whole-doubles-requires
     misplaced-requires
     returns-3
-    cast-end
+    end-of-requires
     add-len
-    cast-len
+    start-of-requires
     sub-len
     trailer-size-requires
     returns-4

@@ -1,41 +1,50 @@
-use Prim.Native.Nat.{ℕ}
+-- `segment::form_of` meets its contract: the type's number is compared by its bits. Assumes nothing.
+use Rattle.segment.proofs.Tests.{is-type, not-type}
+use Rattle.segment.proofs.Forms.{form-two, form-pck, form-three, form-nine, form-thirteen, form-other}
 use borrow.Author.Needs.{needs}
 use Rattle.segment.proofs.form_of.Statement.{statement}
 use Rattle.segment.proofs.form_of.Tie as tie
-use Rattle.segment.proofs.form_of.Reads as reads
-use Rattle.segment.proofs.form_of.Lts as lts
 
--- src/lib.rt:112:9
 returns : tie.Need-returns
-returns c = let h : ℕ = c .if1 .taken in ?
+returns c = form-two (c .before .before .before .args .family) (c .before .before .before .args .s .«data_type») (is-type (c .before .before .before .args .s .«data_type») 2 (search needs) (search needs) (c .if1 .taken))
 
--- src/lib.rt:115:24
 enum-told : tie.Need-enum-told
 enum-told c = search needs
 
--- src/lib.rt:117:16
 enum-told-2 : tie.Need-enum-told-2
 enum-told-2 c = search needs
 
--- src/lib.rt:118:17
 returns-2 : tie.Need-returns-2
-returns-2 c = ?
+returns-2 c =
+    form-three (c .before .before .before .before .before .before .before .before .args .family) (c .before .before .before .before .before .before .before .before .args .s .«data_type») (c .before .before .before .enum-told2 .given .1)
+    (not-type (c .before .before .before .before .before .before .before .before .args .s .«data_type») 2 (search needs) (search needs) (c .before .before .before .before .before .if1 .left))
+    (is-type (c .before .before .before .before .before .before .before .before .args .s .«data_type») 3 (search needs) (search needs) (c .if2 .taken))
 
--- src/lib.rt:121:17
 returns-3 : tie.Need-returns-3
-returns-3 c = ?
+returns-3 c =
+    form-nine (c .before .before .before .before .before .before .before .before .before .before .before .args .family) (c .before .before .before .before .before .before .before .before .before .before .before .args .s .«data_type») (c .before .before .before .before .before .before .enum-told2 .given .1)
+    (not-type (c .before .before .before .before .before .before .before .before .before .before .before .args .s .«data_type») 2 (search needs) (search needs) (c .before .before .before .before .before .before .before .before .if1 .left))
+    (not-type (c .before .before .before .before .before .before .before .before .before .before .before .args .s .«data_type») 3 (search needs) (search needs) (c .before .before .before .if2 .left))
+    (is-type (c .before .before .before .before .before .before .before .before .before .before .before .args .s .«data_type») 9 (search needs) (search needs) (c .if3 .taken))
 
--- src/lib.rt:124:17
 returns-4 : tie.Need-returns-4
-returns-4 c = ?
+returns-4 c =
+    form-thirteen (c .before .before .before .before .before .before .before .before .before .before .before .before .before .before .args .family) (c .before .before .before .before .before .before .before .before .before .before .before .before .before .before .args .s .«data_type») (c .before .before .before .before .before .before .before .before .before .enum-told2 .given .1)
+    (not-type (c .before .before .before .before .before .before .before .before .before .before .before .before .before .before .args .s .«data_type») 2 (search needs) (search needs) (c .before .before .before .before .before .before .before .before .before .before .before .if1 .left))
+    (not-type (c .before .before .before .before .before .before .before .before .before .before .before .before .before .before .args .s .«data_type») 3 (search needs) (search needs) (c .before .before .before .before .before .before .if2 .left))
+    (not-type (c .before .before .before .before .before .before .before .before .before .before .before .before .before .before .args .s .«data_type») 9 (search needs) (search needs) (c .before .before .before .if3 .left))
+    (is-type (c .before .before .before .before .before .before .before .before .before .before .before .before .before .before .args .s .«data_type») 13 (search needs) (search needs) (c .if4 .taken))
 
--- src/lib.rt:108:1
 returns-5 : tie.Need-returns-5
-returns-5 c = let h : ℕ = c .enum-told .given in ?
+returns-5 c = form-pck (c .before .before .before .before .before .args .family) (c .before .before .before .before .before .args .s .«data_type») (c .enum-told .given .1) (not-type (c .before .before .before .before .before .args .s .«data_type») 2 (search needs) (search needs) (c .before .before .if1 .left))
 
--- src/lib.rt:108:1
 returns-6 : tie.Need-returns-6
-returns-6 c = ?
+returns-6 c =
+    form-other (c .before .before .before .before .before .before .before .before .before .before .before .before .before .before .args .family) (c .before .before .before .before .before .before .before .before .before .before .before .before .before .before .args .s .«data_type») (c .before .before .before .before .before .before .before .before .before .enum-told2 .given .1)
+    (not-type (c .before .before .before .before .before .before .before .before .before .before .before .before .before .before .args .s .«data_type») 2 (search needs) (search needs) (c .before .before .before .before .before .before .before .before .before .before .before .if1 .left))
+    (not-type (c .before .before .before .before .before .before .before .before .before .before .before .before .before .before .args .s .«data_type») 3 (search needs) (search needs) (c .before .before .before .before .before .before .if2 .left))
+    (not-type (c .before .before .before .before .before .before .before .before .before .before .before .before .before .before .args .s .«data_type») 9 (search needs) (search needs) (c .before .before .before .if3 .left))
+    (not-type (c .before .before .before .before .before .before .before .before .before .before .before .before .before .before .args .s .«data_type») 13 (search needs) (search needs) (c .if4 .left))
 
 pub form-of-spec : {M : Type 1} → statement M
 form-of-spec =

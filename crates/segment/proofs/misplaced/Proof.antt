@@ -1,24 +1,43 @@
+-- `segment::misplaced` meets its contract: each test in its turn. The machine compares whole numbers by their bits. Assumes nothing.
+use mathlib.Core.Path.{_≡_, sym, ap, _∙_}
+use mathlib.Core.Bool.{false}
 use Prim.Native.Nat.{ℕ}
+use lib.Dec.{T, ltb}
+use lib.IntN.{pos}
+use lib.Signed.{ltZ, nonNeg}
+use borrow.Author.Needs.{needs}
+use Rattle.segment.proofs.Placed.{bits-less, not-under, over-count}
 use Rattle.segment.proofs.misplaced.Statement.{statement}
 use Rattle.segment.proofs.misplaced.Tie as tie
-use Rattle.segment.proofs.misplaced.Reads as reads
-use Rattle.segment.proofs.misplaced.Lts as lts
 
--- src/lib.rt:143:9
 returns : tie.Need-returns
-returns c = let h : ℕ = c .if1 .taken in ?
+returns c =
+    let s = c .before .before .before .args .s in
+    rw (sym (bits-less (s .start) (pos 1) (search needs) (search needs)) ∙ c .if1 .taken)
 
--- src/lib.rt:146:9
 returns-2 : tie.Need-returns-2
-returns-2 c = ?
+returns-2 c =
+    let s = c .before .before .before .before .before .before .args .s in
+    rw (
+      sym (bits-less (s .start) (pos 1) (search needs) (search needs)) ∙ c .before .before .before .if1 .left,
+      sym (bits-less (s .end) (s .start) (search needs) (search needs)) ∙ c .if2 .taken,
+    )
 
--- src/lib.rt:148:13
-cast-result : tie.Need-cast-result
-cast-result c = let h : ℕ = c .before .if2 .left in ?
+end-of-requires : tie.Need-end-of-requires
+end-of-requires c κs =
+    let s = c .before .before .before .before .before .before .args .s in
+    let first : ltZ (s .start) (pos 1) ≡ false = sym (bits-less (s .start) (pos 1) (search needs) (search needs)) ∙ c .before .before .before .if1 .left in
+    let last : ltZ (s .end) (s .start) ≡ false = sym (bits-less (s .end) (s .start) (search needs) (search needs)) ∙ c .if2 .left in
+    not-under (s .start) (s .end) (not-under (pos 1) (s .start) tt first) last
 
--- src/lib.rt:139:1
 returns-3 : tie.Need-returns-3
-returns-3 c = ?
+returns-3 c =
+    let a = c .before .before .before .before .before .before .before .args in
+    let s = a .s in
+    let first : ltZ (s .start) (pos 1) ≡ false = sym (bits-less (s .start) (pos 1) (search needs) (search needs)) ∙ c .before .before .before .before .if1 .left in
+    let last : ltZ (s .end) (s .start) ≡ false = sym (bits-less (s .end) (s .start) (search needs) (search needs)) ∙ c .before .if2 .left in
+    rw (first, last)
+    (ap (λ (n : ℕ). ltb (a .whole) n) (c .end-of .ensures .0) ∙ over-count (a .whole) (s .end) (not-under (s .start) (s .end) (not-under (pos 1) (s .start) tt first) last))
 
 pub misplaced-spec : {M : Type 1} → statement M
-misplaced-spec = tie.close (tie.spec returns returns-2 cast-result returns-3)
+misplaced-spec = tie.close (tie.spec returns returns-2 end-of-requires returns-3)

@@ -1,39 +1,38 @@
+-- `segment::same_kind` meets its contract: the types, then the trailers. Assumes nothing.
+use Rattle.segment.specs.Kinds.{sameTrailer}
+use Rattle.bits.proofs.Tests.{and-yes, and-no}
+use borrow.Author.Tests.{eq-eqb, ne-eqb}
+use mathlib.Core.Path.{sym, ap₂, _∙_}
 use borrow.Author.Needs.{needs}
 use Rattle.segment.proofs.same_kind.Statement.{statement}
 use Rattle.segment.proofs.same_kind.Tie as tie
-use Rattle.segment.proofs.same_kind.Reads as reads
-use Rattle.segment.proofs.same_kind.Lts as lts
-use Rattle.segment.proofs.same_trailer.Reads as same-trailer-reads
-use Rattle.segment.proofs.trailer_in.Reads as trailer-in-reads
-use Rattle.segment.proofs.type_in.Reads as type-in-reads
 
--- src/lib.rt:504:5
 type-in-requires : tie.Need-type-in-requires
 type-in-requires c κs = search needs
 
--- src/lib.rt:504:19
 type-in-requires-2 : tie.Need-type-in-requires-2
 type-in-requires-2 c κs = search needs
 
--- src/lib.rt:504:46
 trailer-in-requires : tie.Need-trailer-in-requires
 trailer-in-requires c κs = search needs
 
--- src/lib.rt:504:61
 trailer-in-requires-2 : tie.Need-trailer-in-requires-2
 trailer-in-requires-2 c κs = search needs
 
--- src/lib.rt:504:33
 same-trailer-requires : tie.Need-same-trailer-requires
 same-trailer-requires c κs = search needs
 
--- src/lib.rt:501:1
 returns : tie.Need-returns
-returns c = ?
+returns c =
+    c .same-trailer .ensures
+    ∙ ap₂ sameTrailer (c .before .before .trailer-in .ensures) (c .before .trailer-in2 .ensures)
+    ∙ and-yes _ _ (eq-eqb _ _ (sym (c .before .before .before .before .before .type-in .ensures) ∙ c .before .before .before .if1 .taken ∙ c .before .before .before .before .type-in2 .ensures))
 
--- src/lib.rt:501:1
 returns-2 : tie.Need-returns-2
-returns-2 c = ?
+returns-2 c =
+    ne-eqb _ _ (c .if1 .left)
+    ∙ sym (ne-eqb _ _ (λ q. c .if1 .left (c .before .before .type-in .ensures ∙ q ∙ sym (c .before .type-in2 .ensures))))
+    ∙ and-no _ _ (ne-eqb _ _ (λ q. c .if1 .left (c .before .before .type-in .ensures ∙ q ∙ sym (c .before .type-in2 .ensures))))
 
 pub same-kind-spec : {M : Type 1} → statement M
 same-kind-spec =

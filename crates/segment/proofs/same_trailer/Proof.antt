@@ -1,33 +1,34 @@
+-- `segment::same_trailer` meets its contract: each test in its turn. Assumes nothing.
+use Rattle.segment.proofs.Tests.{and-second-of-4, and-third-of-4, and-last-of-4}
+use borrow.Author.Tests.{eq-eqb, ne-eqb, not-true, not-false}
+use mathlib.Core.Path.{sym, _∙_}
 use borrow.Author.Needs.{needs}
 use Rattle.segment.proofs.same_trailer.Statement.{statement}
 use Rattle.segment.proofs.same_trailer.Tie as tie
-use Rattle.segment.proofs.same_trailer.Reads as reads
-use Rattle.segment.proofs.same_trailer.Lts as lts
-use Rattle.bits.proofs.same_bits.Reads as same-bits-reads
 
--- src/lib.rt:491:9
 same-bits-requires : tie.Need-same-bits-requires
 same-bits-requires c κs = search needs
 
--- src/lib.rt:492:9
 returns : tie.Need-returns
-returns c = ?
+returns c = simp (sym (c .before .same-bits .ensures) ∙ not-true _ (c .if1 .taken))
 
--- src/lib.rt:494:9
 same-bits-requires-2 : tie.Need-same-bits-requires-2
 same-bits-requires-2 c κs = search needs
 
--- src/lib.rt:495:9
 returns-2 : tie.Need-returns-2
-returns-2 c = ?
+returns-2 c =
+    and-second-of-4 _ _ _ _ (sym (c .before .before .before .same-bits .ensures) ∙ not-false _ (c .before .before .if1 .left))
+    (sym (c .before .same-bits2 .ensures) ∙ not-true _ (c .if2 .taken))
 
--- src/lib.rt:488:1
 returns-3 : tie.Need-returns-3
-returns-3 c = ?
+returns-3 c =
+    and-last-of-4 _ _ _ _ (sym (c .before .before .before .before .before .before .before .before .same-bits .ensures) ∙ not-false _ (c .before .before .before .before .before .before .before .if1 .left))
+    (sym (c .before .before .before .before .before .before .same-bits2 .ensures) ∙ not-false _ (c .before .before .before .before .before .if2 .left)) (eq-eqb _ _ (c .before .before .if3 .taken))
 
--- src/lib.rt:488:1
 returns-4 : tie.Need-returns-4
-returns-4 c = ?
+returns-4 c =
+    and-third-of-4 _ _ _ _ (sym (c .before .before .before .before .before .before .same-bits .ensures) ∙ not-false _ (c .before .before .before .before .before .if1 .left))
+    (sym (c .before .before .before .before .same-bits2 .ensures) ∙ not-false _ (c .before .before .before .if2 .left)) (ne-eqb _ _ (c .if3 .left))
 
 pub same-trailer-spec : {M : Type 1} → statement M
 same-trailer-spec =
