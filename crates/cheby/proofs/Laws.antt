@@ -1,14 +1,15 @@
 -- What a turn of the loops does to the definitions. Each law takes what the calls of the turn ensure as equations, so that a proof only hands them over.
 -- Assumes nothing.
-use Prim.Native.Nat.{ℕ, suc}
+use Prim.Native.Nat.{ℕ, zero, suc, _<_}
 use mathlib.Core.Path.{_≡_, refl}
 use mathlib.Core.List.{List}
+use native.Mathlib.Omega.{arith}
 use lib.Ieee.{Float}
 use Rattle.bits.specs.F64.{_⊕_, _⊖_, _⊗_, two, one}
 use Rattle.bits.specs.Bytes.{every}
 use Rattle.cheby.specs.declared.Triple.{Triple}
 use Rattle.cheby.specs.Cheby.{T, T′, seriesAt, slopeAt}
-use Rattle.cheby.specs.Steps.{each, values, slopes, scaled, added}
+use Rattle.cheby.specs.Steps.{each, none, values, slopes, scaled, added}
 
 module _ (s : Float) (j : ℕ) where
   -- the next polynomial
@@ -20,6 +21,13 @@ module _ (s : Float) (j : ℕ) where
   pub T′-turn : {t₁ d₀ d₁ : Float} → t₁ ≡ T s (suc j) → d₀ ≡ T′ s j → d₁ ≡ T′ s (suc j) → two ⊗ t₁ ⊕ two ⊗ s ⊗ d₁ ⊖ d₀ ≡ T′ s (suc (suc j))
   unfolding T′
   T′-turn e₁ e₂ e₃ = rw (e₁, e₂, e₃)
+
+-- the derivatives of fewer than two coefficients
+pub slopes-few : (kernel : List ℕ) (q n : ℕ) (s : Float) → n < 2 → none ≡ slopes kernel q n s
+unfolding slopeAt
+slopes-few kernel q zero s h = refl
+slopes-few kernel q (suc zero) s h = refl
+slopes-few kernel q (suc (suc n)) s h = absurd (omega arith)
 
 -- of the three series from byte q on
 module _ (kernel : List ℕ) (q n : ℕ) (s : Float) where

@@ -58,7 +58,6 @@ number-in f (suc m) j e h =
     before false y p = p
 
 -- and so is the one at byte `at`, if that is double j
-pub clear-at : (kernel : List ℕ) (p m j at : ℕ) (clear : Bool) → clear ≡ allNumbers (every 8 kernel p) m → j < m → p + 8 * j ≡ at
+pub clear-at : (kernel : List ℕ) (p m j at : ℕ) {clear : Bool} → (clear ≡ true → allNumbers (every 8 kernel p) m ≡ true) → j < m → p + 8 * j ≡ at
     → clear ≡ true → isNan (doubleAt kernel at) ≡ false
-clear-at kernel p m j at clear e h place t =
-    ap (λ (q : ℕ). isNan (doubleAt kernel q)) (sym place) ∙ number-in (every 8 kernel p) m j (sym e ∙ t) h
+clear-at kernel p m j at all h place t = ap (λ (q : ℕ). isNan (doubleAt kernel q)) (sym place) ∙ number-in (every 8 kernel p) m j (all t) h

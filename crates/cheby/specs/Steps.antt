@@ -4,7 +4,7 @@ use Prim.Native.Nat.{ℕ, zero, suc, _+_, _*_}
 use mathlib.Core.Bool.{Bool, true, not, _&&_}
 use mathlib.Core.List.{List}
 use lib.Ieee.{Float, isNan}
-use Rattle.bits.specs.F64.{_⊕_, _⊗_}
+use Rattle.bits.specs.F64.{_⊕_, _⊗_, +0}
 use Rattle.bits.specs.Bytes.{every}
 use Rattle.cheby.specs.declared.Triple.{Triple}
 use Rattle.cheby.specs.declared.Both.{Both}
@@ -26,6 +26,10 @@ values kernel q n s = each (λ f. seriesAt f n s) kernel q n
 -- Their derivatives at s.
 abbrev pub slopes : List ℕ → ℕ → ℕ → Float → Triple
 slopes kernel q n s = each (λ f. slopeAt f n s) kernel q n
+
+-- Three times +0.
+abbrev pub none : Triple
+none = record { x = +0; y = +0; z = +0 }
 
 -- Three coefficients times a polynomial.
 abbrev pub scaled : Triple → Float → Triple

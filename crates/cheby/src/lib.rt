@@ -4,11 +4,11 @@
 ghost use mathlib.Core.Path.{_≡_};
 ghost use mathlib.Core.Bool.{Bool, true, false};
 ghost use Prim.Native.Nat.{ℕ, _+_, _*_, _≤_, _<_};
-ghost use lib.Ieee.{isNan};
+ghost use lib.Ieee.{Float, isNan};
 ghost use lib.ListN.{length};
 ghost use Rattle.bits.specs.Bytes.{doubleAt, every};
 ghost use Rattle.cheby.specs.Cheby.{recordFor, type2Of, type3Of};
-ghost use Rattle.cheby.specs.Steps.{allNumbers, each, values, slopes, scaled, added};
+ghost use Rattle.cheby.specs.Steps.{allNumbers, each, values, slopes, none, scaled, added};
 use frame::State;
 
 // What a type 2 record gives.
@@ -37,10 +37,8 @@ fn all_numbers(kernel: &[u8], p: usize, m: usize) -> bool
     ensures { λ r. ⌜ r ≡ allNumbers (every 8 (now (kernel .entry)) p) m ⌝ }
 {
     let mut seen: u64 = 0;
-    let mut j: usize = 0;
-    while j < m {
+    for j in 0..m {
         seen |= bits::le_u64(kernel, p + 8 * j) % 0x8000_0000_0000_0000 + 0xf_ffff_ffff_ffff;
-        j += 1;
     }
     seen < 0x8000_0000_0000_0000
 }
@@ -60,13 +58,24 @@ fn number_at(kernel: &[u8], at: usize, clear: bool) -> f64
 
 // The coefficients of order k of the three series of n coefficients from byte p on.
 fn row_at(kernel: &[u8], p: usize, n: usize, k: usize, clear: bool) -> Triple
-    requires { ⌜ (k < n) × (p + 24 * n ≤ length (now kernel)) × (clear ≡ allNumbers (every 8 (now kernel) p) (3 * n)) ⌝ }
+    requires { ⌜ (k < n) × (p + 24 * n ≤ length (now kernel)) × (clear ≡ true → allNumbers (every 8 (now kernel) p) (3 * n) ≡ true) ⌝ }
     ensures { λ r. ⌜ r ≡ each (λ f. f k) (now (kernel .entry)) p n ⌝ }
 {
     Triple {
         x: number_at(kernel, p + 8 * k, clear),
         y: number_at(kernel, p + 8 * n + 8 * k, clear),
         z: number_at(kernel, p + 16 * n + 8 * k, clear),
+    }
+}
+
+// Three times +0.
+fn zeros() -> Triple
+    ensures { λ r. ⌜ r ≡ none ⌝ }
+{
+    Triple {
+        x: 0.0,
+        y: 0.0,
+        z: 0.0,
     }
 }
 
@@ -92,40 +101,43 @@ fn plus(sum: Triple, c: Triple, t: f64) -> Triple
     }
 }
 
+// The values of fewer than two coefficients, the same at every s: the one coefficient, or +0.
+fn val_of_few(kernel: &[u8], p: usize, n: usize) -> Triple
+    requires { ⌜ (n < 2) × (p + 24 * n ≤ length (now kernel)) ⌝ }
+    ensures { λ r. ⌜ ((s : Float) → r ≡ values (now (kernel .entry)) p n s) ⌝ }
+{
+    if n == 0 {
+        zeros()
+    } else {
+        row_at(kernel, p, n, 0, false)
+    }
+}
+
 // The three series of n coefficients from byte p on, with their derivatives by s.
 fn val_and_deriv(kernel: &[u8], p: usize, n: usize, s: f64) -> Both
     requires { ⌜ p + 24 * n ≤ length (now kernel) ⌝ }
     ensures { λ r. ⌜ (r .value ≡ values (now (kernel .entry)) p n s) × (r .slope ≡ slopes (now (kernel .entry)) p n s) ⌝ }
 {
-    let none = Triple {
-        x: 0.0,
-        y: 0.0,
-        z: 0.0,
-    };
-    if n == 0 {
+    if n < 2 {
         return Both {
-            value: none,
-            slope: none,
+            value: val_of_few(kernel, p, n),
+            slope: zeros(),
         };
     }
     let clear = all_numbers(kernel, p, 3 * n);
-    let first = row_at(kernel, p, n, 0, clear);
-    if n == 1 {
-        return Both {
-            value: first,
-            slope: none,
-        };
-    }
     let second = row_at(kernel, p, n, 1, clear);
     let mut t_prev = 1.0;
     let mut t_curr = s;
     let mut dt_prev = 0.0;
     let mut dt_curr = 1.0;
-    let mut val = plus(times(first, t_prev), second, t_curr);
+    let mut val = plus(
+        times(row_at(kernel, p, n, 0, clear), t_prev),
+        second,
+        t_curr,
+    );
     let mut der = times(second, dt_curr);
     let two_s = 2.0 * s;
-    let mut k: usize = 2;
-    while k < n {
+    for k in 2..n {
         let t_next = two_s * t_curr - t_prev;
         let dt_next = 2.0 * t_curr + two_s * dt_curr - dt_prev;
         let c = row_at(kernel, p, n, k, clear);
@@ -135,7 +147,6 @@ fn val_and_deriv(kernel: &[u8], p: usize, n: usize, s: f64) -> Both
         t_curr = t_next;
         dt_prev = dt_curr;
         dt_curr = dt_next;
-        k += 1;
     }
     Both {
         value: val,
@@ -143,34 +154,28 @@ fn val_and_deriv(kernel: &[u8], p: usize, n: usize, s: f64) -> Both
     }
 }
 
-// The values alone.
+// The three series of n coefficients from byte p on, without the derivatives.
 fn val_only(kernel: &[u8], p: usize, n: usize, s: f64) -> Triple
     requires { ⌜ p + 24 * n ≤ length (now kernel) ⌝ }
     ensures { λ r. ⌜ r ≡ values (now (kernel .entry)) p n s ⌝ }
 {
-    if n == 0 {
-        return Triple {
-            x: 0.0,
-            y: 0.0,
-            z: 0.0,
-        };
+    if n < 2 {
+        return val_of_few(kernel, p, n);
     }
     let clear = all_numbers(kernel, p, 3 * n);
-    let first = row_at(kernel, p, n, 0, clear);
-    if n == 1 {
-        return first;
-    }
     let mut t_prev = 1.0;
     let mut t_curr = s;
-    let mut val = plus(times(first, t_prev), row_at(kernel, p, n, 1, clear), t_curr);
+    let mut val = plus(
+        times(row_at(kernel, p, n, 0, clear), t_prev),
+        row_at(kernel, p, n, 1, clear),
+        t_curr,
+    );
     let two_s = 2.0 * s;
-    let mut k: usize = 2;
-    while k < n {
+    for k in 2..n {
         let t_next = two_s * t_curr - t_prev;
         val = plus(val, row_at(kernel, p, n, k, clear), t_next);
         t_prev = t_curr;
         t_curr = t_next;
-        k += 1;
     }
     val
 }

@@ -18,7 +18,7 @@ number-at-requires : tie.Need-number-at-requires
 number-at-requires c κs =
     let start = c .before in
     let args = start .args in
-    (omega arith, clear-at (now (args .kernel)) (args .p) (3 * args .n) (args .k) _ (args .clear) (start .pre .2) (omega arith) (omega arith))
+    (omega arith, clear-at (now (args .kernel)) (args .p) (3 * args .n) (args .k) _ (start .pre .2) (omega arith) (omega arith))
 
 mul-number-at-2 : tie.Need-mul-number-at-2
 mul-number-at-2 c = search needs
@@ -36,7 +36,7 @@ number-at-requires-2 : tie.Need-number-at-requires-2
 number-at-requires-2 c κs =
     let start = c .before .before in
     let args = start .args in
-    (omega arith, clear-at (now (args .kernel)) (args .p) (3 * args .n) (args .n + args .k) _ (args .clear) (start .pre .2) (omega arith) (omega arith))
+    (omega arith, clear-at (now (args .kernel)) (args .p) (3 * args .n) (args .n + args .k) _ (start .pre .2) (omega arith) (omega arith))
 
 mul-number-at-4 : tie.Need-mul-number-at-4
 mul-number-at-4 c = search needs
@@ -54,7 +54,7 @@ number-at-requires-3 : tie.Need-number-at-requires-3
 number-at-requires-3 c κs =
     let start = c .before .before .before in
     let args = start .args in
-    (omega arith, clear-at (now (args .kernel)) (args .p) (3 * args .n) (2 * args .n + args .k) _ (args .clear) (start .pre .2) (omega arith) (omega arith))
+    (omega arith, clear-at (now (args .kernel)) (args .p) (3 * args .n) (2 * args .n + args .k) _ (start .pre .2) (omega arith) (omega arith))
 
 returns : tie.Need-returns
 returns c = rw (c .number-at3 .ensures, c .before .number-at2 .ensures, c .before .before .number-at .ensures)

@@ -2,12 +2,12 @@
 -- are those of k coefficients.
 -- Assumes nothing.
 use Prim.Native.Nat.{ℕ, suc, _≤_, _-_}
-use mathlib.Core.Path.{_≡_, refl}
+use mathlib.Core.Path.{_≡_, refl, sym, _∙_}
 use native.Mathlib.Omega.{arith}
 use borrow.Author.Needs.{needs}
 use Rattle.cheby.specs.Cheby.{T, T′, seriesAt, slopeAt}
 use Rattle.cheby.specs.Steps.{each}
-use Rattle.cheby.proofs.Laws.{T-turn, T′-turn, values-two, slopes-two, values-turn, slopes-turn}
+use Rattle.cheby.proofs.Laws.{T-turn, T′-turn, slopes-few, values-two, slopes-two, values-turn, slopes-turn}
 use Rattle.cheby.proofs.val_and_deriv.Statement.{statement}
 use Rattle.cheby.proofs.val_and_deriv.Tie as tie
 
@@ -19,13 +19,18 @@ Inv-loop kernel p n s clear t-prev₀ t-curr₀ dt-prev₀ dt-curr₀ val₀ der
 abbrev μ-loop : tie.MeasureT-loop
 μ-loop kernel p n s clear t-prev₀ t-curr₀ dt-prev₀ dt-curr₀ val₀ der₀ two-s k₀ t-prev t-curr dt-prev dt-curr val der k = n - k
 
--- the function's entry, from the loop's head
-abbrev start : tie.At-loop Inv-loop μ-loop → tie.Start Inv-loop μ-loop
-start c = c .before .before .before .before .before .before .before .before .before .before
+-- what follows the test for NaNs, from the loop's head
+abbrev clear : tie.At-loop Inv-loop μ-loop → tie.After-all-numbers Inv-loop μ-loop
+clear c = c .before .before .before .before .before .before
+
+val-of-few-requires : tie.Need-val-of-few-requires Inv-loop μ-loop
+val-of-few-requires c κs = omega arith
+
+zeros-requires : tie.Need-zeros-requires Inv-loop μ-loop
+zeros-requires c κs = search needs
 
 returns : tie.Need-returns Inv-loop μ-loop
-unfolding seriesAt slopeAt
-returns c = (rw (c .if1 .taken), rw (c .if1 .taken))
+returns c = (c .before .val-of-few .ensures _, c .zeros .ensures ∙ slopes-few _ _ _ _ (c .before .before .if1 .taken))
 
 mul-all-numbers : tie.Need-mul-all-numbers Inv-loop μ-loop
 mul-all-numbers c = omega arith
@@ -34,14 +39,10 @@ all-numbers-requires : tie.Need-all-numbers-requires Inv-loop μ-loop
 all-numbers-requires c κs = omega arith
 
 row-at-requires : tie.Need-row-at-requires Inv-loop μ-loop
-row-at-requires c κs = (omega arith, omega arith, c .all-numbers .ensures)
-
-returns-2 : tie.Need-returns-2 Inv-loop μ-loop
-unfolding seriesAt slopeAt
-returns-2 c = (rw (c .before .row-at .ensures, c .if2 .taken), rw (c .if2 .taken))
+row-at-requires c κs = (omega arith, omega arith, λ t. sym (c .all-numbers .ensures) ∙ t)
 
 row-at-requires-2 : tie.Need-row-at-requires-2 Inv-loop μ-loop
-row-at-requires-2 c κs = (omega arith, omega arith, c .before .before .all-numbers .ensures)
+row-at-requires-2 c κs = (omega arith, omega arith, λ t. sym (c .before .all-numbers .ensures) ∙ t)
 
 times-requires : tie.Need-times-requires Inv-loop μ-loop
 times-requires c κs = search needs
@@ -55,8 +56,8 @@ times-requires-2 c κs = search needs
 loop-holds : tie.Need-loop-holds Inv-loop μ-loop
 unfolding T T′
 loop-holds c =
-    let second = c .before .before .before .row-at2 .ensures in
-    let first = c .before .before .before .before .before .row-at .ensures in (
+    let first = c .before .before .before .row-at2 .ensures in
+    let second = c .before .before .before .before .row-at .ensures in (
       0,
       refl,
       omega arith,
@@ -69,7 +70,7 @@ loop-holds c =
     )
 
 row-at-requires-3 : tie.Need-row-at-requires-3 Inv-loop μ-loop
-row-at-requires-3 c κs = (omega arith, omega arith, c .before .before .before .before .before .before .before .before .all-numbers .ensures)
+row-at-requires-3 c κs = (omega arith, omega arith, λ t. sym (clear (c .before) .all-numbers .ensures) ∙ t)
 
 plus-requires-2 : tie.Need-plus-requires-2 Inv-loop μ-loop
 plus-requires-2 c κs = search needs
@@ -78,7 +79,7 @@ plus-requires-3 : tie.Need-plus-requires-3 Inv-loop μ-loop
 plus-requires-3 c κs = search needs
 
 add-k : tie.Need-add-k Inv-loop μ-loop
-add-k c = omega (arith, start (c .before .before .before .before) .fits .n)
+add-k c = omega (arith, clear (c .before .before .before .before) .before)
 
 loop-less : tie.Need-loop-less Inv-loop μ-loop
 loop-less c = omega arith
@@ -100,14 +101,14 @@ loop-again c =
       slopes-turn _ _ _ _ (inv .0) (inv .1) d row (inv .8) (c .plus3 .ensures),
     )
 
-returns-3 : tie.Need-returns-3 Inv-loop μ-loop
-returns-3 c =
+returns-2 : tie.Need-returns-2 Inv-loop μ-loop
+returns-2 c =
     let inv = c .before .loop .inv in
-    let all : suc (suc (inv .0)) ≡ start (c .before) .args .n = omega arith in
+    let all : suc (suc (inv .0)) ≡ clear (c .before) .before .before .before .args .n = omega arith in
     (rw (inv .7, all), rw (inv .8, all))
 
 pub val-and-deriv-spec : {M : Type 1} → statement M
 val-and-deriv-spec =
     tie.close
-    (tie.spec Inv-loop μ-loop returns mul-all-numbers all-numbers-requires row-at-requires returns-2 row-at-requires-2 times-requires plus-requires
-    times-requires-2 loop-holds row-at-requires-3 plus-requires-2 plus-requires-3 add-k loop-less loop-again returns-3)
+    (tie.spec Inv-loop μ-loop val-of-few-requires zeros-requires returns mul-all-numbers all-numbers-requires row-at-requires row-at-requires-2 times-requires
+    plus-requires times-requires-2 loop-holds row-at-requires-3 plus-requires-2 plus-requires-3 add-k loop-less loop-again returns-2)
