@@ -1,0 +1,7 @@
+-- Laws that the functions' proofs and other crates cite.
+pub mod Search
+pub mod Greatest
+pub mod Blend
+pub mod Same
+pub mod Window
+pub mod Table
