@@ -5,3 +5,5 @@ pub mod Blend
 pub mod Same
 pub mod Window
 pub mod Table
+pub mod Own
+pub mod Cases

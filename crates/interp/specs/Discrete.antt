@@ -16,12 +16,10 @@ six f q = record { x = f q; y = f (q + 8); z = f (q + 16); vx = f (q + 24); vy =
 
 -- Where the window for et starts.
 unfoldable pub windowAt : List ℕ → ℕ → ℕ → ℕ → Float → ℕ
-unfolding leftAt windowSize windowStart
 windowAt s p n d et = windowStart (leftAt s (p + 48 * n) n et) (windowSize d n) n
 
 -- Six numbers by Lagrange over c states from byte q on and their epochs from byte e on.
 unfoldable pub lagrangeAt : List ℕ → ℕ → ℕ → ℕ → Float → State
-unfolding lagrangeOf
 lagrangeAt s q e c et = six (λ b. lagrangeOf (every 8 s e) (every 48 s b) c et) q
 
 -- One axis by Hermite: its positions stand at byte b and every 48 bytes after, its velocities 24 bytes behind them.
@@ -30,7 +28,6 @@ axisAt s b e c et = hermiteOf (every 8 s e) (every 48 s b) (every 48 s (b + 24))
 
 -- Six numbers by Hermite over c states from byte q on and their epochs from byte e on: an axis' position is its value, its velocity the derivative.
 unfoldable pub hermiteAt : List ℕ → ℕ → ℕ → ℕ → Float → State
-unfolding hermiteOf
 hermiteAt s q e c et =
     let a = axisAt s q e c et in
     let b = axisAt s (q + 8) e c et in
@@ -39,12 +36,10 @@ hermiteAt s q e c et =
 
 -- Type 9 at et: n states from byte p on, of degree d.
 unfoldable pub type9Of : List ℕ → ℕ → ℕ → ℕ → Float → State
-unfolding windowAt lagrangeAt windowSize
 type9Of s p n d et = let w = windowAt s p n d et in lagrangeAt s (p + 48 * w) (p + 48 * n + 8 * w) (windowSize d n) et
 
 -- Type 13 at et: n states from byte p on, of window size d + 1.
 unfoldable pub type13Of : List ℕ → ℕ → ℕ → ℕ → Float → State
-unfolding windowAt hermiteAt windowSize
 type13Of s p n d et = let w = windowAt s p n d et in hermiteAt s (p + 48 * w) (p + 48 * n + 8 * w) (windowSize d n) et
 
 -- ---- what the small functions of the code do

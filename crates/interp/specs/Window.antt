@@ -23,7 +23,6 @@ leftOf p n = bisect p n 0 n - 1
 
 -- l: the place that the search for et finds among the n epochs from byte p on.
 unfoldable pub leftAt : List ℕ → ℕ → ℕ → Float → ℕ
-unfolding leftOf
 leftAt s p n et = leftOf (λ k. le (every 8 s p k) et) n
 
 -- c: how many records a window of degree d has among n.

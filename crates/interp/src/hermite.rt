@@ -1,7 +1,6 @@
 // Hermite, straight from the kernel: `hermite_eval` of the Rust. A column of divided differences is an array of 64; the coefficient of order k is the first number of column k, so the Newton form is summed as the columns are made.
 
 use frame::State;
-
 ghost use mathlib.Core.Path.{_≡_};
 ghost use Prim.Native.Nat.{ℕ, _+_, _*_, _/_, _≤_, _<_};
 ghost use lib.ListN.{length};
@@ -62,15 +61,14 @@ fn first_at(kernel: &[u8], q: usize, z: &[f64; 64], i: usize) -> f64
     if i % 2 == 0 {
         return bits::double_at(kernel, q + 24 + 48 * (i / 2));
     }
-    (bits::double_at(kernel, q + 48 * ((i + 1) / 2)) - bits::double_at(kernel, q + 48 * (i / 2))) / (z[i + 1] - z[i])
+    (bits::double_at(kernel, q + 48 * ((i + 1) / 2)) - bits::double_at(kernel, q + 48 * (i / 2)))
+        / (z[i + 1] - z[i])
 }
 
 // The column of order 1.
 fn first_column(kernel: &[u8], q: usize, z: &[f64; 64], c: usize) -> [f64; 64]
     requires { ⌜ (c ≤ 32) × (q + 48 * c ≤ length (now kernel) + 16) ⌝ }
-    ensures {
-        λ r. ⌜ (length r ≡ 64) × ((i : ℕ) → i + 1 < c + c → at r i ≡ difference (at (now (z .entry))) (every 48 (now (kernel .entry)) q) (every 48 (now (kernel .entry)) (q + 24)) 1 i) ⌝
-    }
+    ensures { λ r. ⌜ (length r ≡ 64) × ((i : ℕ) → i + 1 < c + c → at r i ≡ difference (at (now (z .entry))) (every 48 (now (kernel .entry)) q) (every 48 (now (kernel .entry)) (q + 24)) 1 i) ⌝ }
 {
     let m = c + c;
     let mut col = [0.0; 64];
@@ -85,9 +83,7 @@ fn first_column(kernel: &[u8], q: usize, z: &[f64; 64], c: usize) -> [f64; 64]
 // The column of order k from the one before.
 fn next_column(cur: &[f64; 64], next: &mut [f64; 64], z: &[f64; 64], m: usize, k: usize)
     requires { ⌜ (1 ≤ k) × (k ≤ m) × (m ≤ 64) × (length (now next) ≡ 64) ⌝ }
-    ensures {
-        λ r. ⌜ (length (now (next .exit)) ≡ 64) × ((i : ℕ) → i + k < m → at (now (next .exit)) i ≡ quotient (at (now (cur .entry))) (at (now (z .entry))) k i) ⌝
-    }
+    ensures { λ r. ⌜ (length (now (next .exit)) ≡ 64) × ((i : ℕ) → i + k < m → at (now (next .exit)) i ≡ quotient (at (now (cur .entry))) (at (now (z .entry))) k i) ⌝ }
 {
     let mut i: usize = 0;
     while i + k < m {

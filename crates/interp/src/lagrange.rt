@@ -1,7 +1,6 @@
 // Lagrange, straight from the kernel: `lagrange_eval` of the Rust for six numbers at once. The weights depend on the epochs alone, so they are worked out once for the six.
 
 use frame::State;
-
 ghost use mathlib.Core.Path.{_≡_};
 ghost use Prim.Native.Nat.{ℕ, _+_, _*_, _≤_, _<_};
 ghost use lib.ListN.{length};

@@ -6,7 +6,6 @@ mod lagrange;
 use frame::State;
 use hermite::hermite_at;
 use lagrange::lagrange_at;
-
 ghost use mathlib.Core.Path.{_≡_};
 ghost use Prim.Native.Nat.{_+_, _*_, _-_, _≤_, _<_, min};
 ghost use lib.ListN.{length};
