@@ -2,13 +2,13 @@
 use Prim.Native.Nat.{ℕ, _+_, _*_}
 use mathlib.Core.List.{List}
 use lib.Ieee.{Float}
-use Rattle.bits.specs.F64.{_⊕_, _⊗_, _⊘_}
+use Rattle.bits.specs.F64.{_⊕_, _⊗_, _⊘_, at}
 use Rattle.bits.specs.Bytes.{every}
 use Rattle.frame.specs.declared.State.{State}
 use Rattle.interp.specs.declared.hermite.Point.{Point}
 use Rattle.interp.specs.Window.{leftAt, windowSize, windowStart}
 use Rattle.interp.specs.Lagrange.{lagrangeOf}
-use Rattle.interp.specs.Hermite.{hermiteOf}
+use Rattle.interp.specs.Hermite.{difference, tableOf, hermiteOf}
 
 -- The six numbers of a state, position and then velocity, where f gives the number that stands at a byte of the states.
 abbrev pub six : (ℕ → Float) → ℕ → State
@@ -43,6 +43,14 @@ unfoldable pub type13Of : List ℕ → ℕ → ℕ → ℕ → Float → State
 type13Of s p n d et = let w = windowAt s p n d et in hermiteAt s (p + 48 * w) (p + 48 * n + 8 * w) (windowSize d n) et
 
 -- ---- what the small functions of the code do
+
+-- Number i of the column of order k for the axis at byte b, over the doubled nodes in z.
+abbrev pub axisColumn : List ℕ → ℕ → List Float → ℕ → ℕ → Float
+axisColumn s b z k i = difference (at z) (every 48 s b) (every 48 s (b + 24)) k i
+
+-- The axis at byte b over the c doubled nodes in z.
+abbrev pub axisTable : List ℕ → ℕ → List Float → ℕ → Float → Point
+axisTable s b z c x = tableOf (at z) (every 48 s b) (every 48 s (b + 24)) c x
 
 -- A share of each number of y, added to that of sum.
 abbrev pub withShare : State → Float → State → State

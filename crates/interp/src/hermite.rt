@@ -1,4 +1,5 @@
-// Hermite, straight from the kernel: `hermite_eval` of the Rust. A column of divided differences is an array of 64; the coefficient of order k is the first number of column k, so the Newton form is summed as the columns are made.
+// Hermite, straight from the kernel: `hermite_eval` of the Rust, with the doubled nodes shared by the three axes. A column of divided
+// differences is an array of 64. The coefficient of order k is the first number of column k, so the Newton form is summed as the columns are made.
 
 use frame::State;
 ghost use mathlib.Core.Path.{_≡_};
@@ -6,8 +7,8 @@ ghost use Prim.Native.Nat.{ℕ, _+_, _*_, _/_, _≤_, _<_};
 ghost use lib.ListN.{length};
 ghost use Rattle.bits.specs.F64.{at};
 ghost use Rattle.bits.specs.Bytes.{every};
-ghost use Rattle.interp.specs.Hermite.{doubled, quotient, difference, advanced, tableOf};
-ghost use Rattle.interp.specs.Discrete.{hermiteAt};
+ghost use Rattle.interp.specs.Hermite.{doubled, quotient, advanced};
+ghost use Rattle.interp.specs.Discrete.{hermiteAt, axisColumn, axisTable};
 
 // A value and a derivative.
 pub struct Point {
@@ -53,10 +54,11 @@ fn nodes_at(kernel: &[u8], e: usize, c: usize) -> [f64; 64]
     z
 }
 
-// The first difference at place i, of the values at byte q of each state and the slopes 24 bytes behind: within a doubled node it is the slope.
+// The first difference at place i, of the values at byte q of each state and the slopes 24 bytes behind:
+// within a doubled node it is the slope.
 fn first_at(kernel: &[u8], q: usize, z: &[f64; 64], i: usize) -> f64
     requires { ⌜ (i < 63) × (q + 48 * ((i + 1) / 2) + 32 ≤ length (now kernel)) ⌝ }
-    ensures { λ r. ⌜ r ≡ difference (at (now (z .entry))) (every 48 (now (kernel .entry)) q) (every 48 (now (kernel .entry)) (q + 24)) 1 i ⌝ }
+    ensures { λ r. ⌜ r ≡ axisColumn (now (kernel .entry)) q (now (z .entry)) 1 i ⌝ }
 {
     if i % 2 == 0 {
         return bits::double_at(kernel, q + 24 + 48 * (i / 2));
@@ -68,7 +70,7 @@ fn first_at(kernel: &[u8], q: usize, z: &[f64; 64], i: usize) -> f64
 // The column of order 1.
 fn first_column(kernel: &[u8], q: usize, z: &[f64; 64], c: usize) -> [f64; 64]
     requires { ⌜ (c ≤ 32) × (q + 48 * c ≤ length (now kernel) + 16) ⌝ }
-    ensures { λ r. ⌜ (length r ≡ 64) × ((i : ℕ) → i + 1 < c + c → at r i ≡ difference (at (now (z .entry))) (every 48 (now (kernel .entry)) q) (every 48 (now (kernel .entry)) (q + 24)) 1 i) ⌝ }
+    ensures { λ r. ⌜ (length r ≡ 64) × ((i : ℕ) → i + 1 < c + c → at r i ≡ axisColumn (now (kernel .entry)) q (now (z .entry)) 1 i) ⌝ }
 {
     let m = c + c;
     let mut col = [0.0; 64];
@@ -95,7 +97,7 @@ fn next_column(cur: &[f64; 64], next: &mut [f64; 64], z: &[f64; 64], m: usize, k
 // One axis over c doubled nodes z: values at byte q of each state, slopes 24 bytes behind.
 fn axis_at(kernel: &[u8], q: usize, z: &[f64; 64], c: usize, x: f64) -> Point
     requires { ⌜ (1 ≤ c) × (c ≤ 32) × (q + 48 * c ≤ length (now kernel) + 16) ⌝ }
-    ensures { λ r. ⌜ r ≡ tableOf (at (now (z .entry))) (every 48 (now (kernel .entry)) q) (every 48 (now (kernel .entry)) (q + 24)) c x ⌝ }
+    ensures { λ r. ⌜ r ≡ axisTable (now (kernel .entry)) q (now (z .entry)) c x ⌝ }
 {
     let m = c + c;
     let mut cur = first_column(kernel, q, z, c);

@@ -1,4 +1,5 @@
-// Lagrange, straight from the kernel: `lagrange_eval` of the Rust for six numbers at once. The weights depend on the epochs alone, so they are worked out once for the six.
+// Lagrange, straight from the kernel: `lagrange_eval` of the Rust, for six numbers at once. The weights depend on the epochs alone, so they are
+// worked out once for the six.
 
 use frame::State;
 ghost use mathlib.Core.Path.{_≡_};
