@@ -1,5 +1,6 @@
 -- Laws that several functions' proofs cite.
 pub mod Nan
+pub mod Finite
 pub mod Whole
 pub mod Floor
 pub mod Patterns

@@ -1,0 +1,2 @@
+-- Laws on states and frames.
+pub mod Laws

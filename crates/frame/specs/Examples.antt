@@ -1,0 +1,116 @@
+-- Worked examples that antt computes: each is closed by `refl`, and every definition on the way is named on the `unfolding` line.
+use Prim.Native.Nat.{ℕ, _+_, _*_}
+use mathlib.Core.Path.{_≡_, refl}
+use mathlib.Core.Bool.{Bool, true, false}
+use mathlib.Core.List.{List, [], _∷_, map}
+use lib.Ieee.{Float, nan, inf, add, sub, mul, neg, ofInt, ofBits, binary64}
+use Rattle.bits.specs.F64.{+0, whole}
+use Rattle.frame.specs.State.{stateOf, zeroState, negatedState, plusState, minusState, finiteState}
+use Rattle.frame.specs.Frame.{Matrix, matrix, turnedState, transposeOf, turnedBetween, productOf, sumOf, sxformOf, inverseOf, appliedState}
+use Rattle.frame.specs.declared.State.{State}
+use Rattle.frame.specs.declared.NaifFrame.the-variants.{J2000, EclipJ2000}
+
+-- A whole number below zero; -0 of 0.
+abbrev minus : ℕ → Float
+minus n = neg (whole n)
+
+-- A state from its six numbers.
+abbrev state : Float → Float → Float → Float → Float → Float → State
+state a b c d e f = record { x = a; y = b; z = c; vx = d; vy = e; vz = f }
+
+-- The state (1, 2, 3, 4, 5, 6).
+abbrev counted : State
+counted = stateOf (λ k. whole (k + 1))
+
+-- The six numbers are -0.
+abbrev minusZeros : State
+minusZeros = stateOf (λ k. minus 0)
+
+-- The rows (0, 1, 0), (-1, 0, 0), (0, 0, 1).
+abbrev quarter : Matrix
+quarter = (whole 0 ∷ whole 1 ∷ whole 0 ∷ []) ∷ (minus 1 ∷ whole 0 ∷ whole 0 ∷ []) ∷ (whole 0 ∷ whole 0 ∷ whole 1 ∷ []) ∷ []
+
+-- The rows (1, 0, 0), (0, 1, 0), (0, 0, 1).
+abbrev unit : Matrix
+unit = (whole 1 ∷ whole 0 ∷ whole 0 ∷ []) ∷ (whole 0 ∷ whole 1 ∷ whole 0 ∷ []) ∷ (whole 0 ∷ whole 0 ∷ whole 1 ∷ []) ∷ []
+
+-- The rows (1, 2, 3), (4, 5, 6), (7, 8, 9).
+abbrev nine : Matrix
+nine = matrix 3 (λ i j. whole (3 * i + j + 1))
+
+-- Document 01: rows (0, 1, 0), (-1, 0, 0), (0, 0, 1) on (1, 2, 3, 4, 5, 6) give (2, -1, 3, 5, -4, 6).
+pub quarter-turn : turnedState quarter counted ≡ state (whole 2) (minus 1) (whole 3) (whole 5) (minus 4) (whole 6)
+unfolding add mul neg ofInt
+quarter-turn = refl
+
+-- The same from J2000 to ECLIPJ2000.
+pub to-ecliptic : turnedBetween J2000 EclipJ2000 quarter counted ≡ state (whole 2) (minus 1) (whole 3) (whole 5) (minus 4) (whole 6)
+unfolding turnedBetween add mul neg ofInt
+to-ecliptic = refl
+
+-- And back, by the transpose.
+pub from-ecliptic : turnedBetween EclipJ2000 J2000 quarter (state (whole 2) (minus 1) (whole 3) (whole 5) (minus 4) (whole 6)) ≡ counted
+unfolding turnedBetween add mul neg ofInt
+from-ecliptic = refl
+
+-- The unit matrix leaves -0 as it is: a sum that started at +0 would give +0.
+pub turned-zeros : turnedState unit minusZeros ≡ minusZeros
+unfolding add mul neg ofInt
+turned-zeros = refl
+
+-- In `matmul3` the +0 shows: the unit matrix times a matrix of -0 is one of +0.
+pub product-zeros : productOf unit (matrix 3 (λ i j. minus 0)) ≡ matrix 3 (λ i j. +0)
+unfolding add mul neg ofInt ofBits
+product-zeros = refl
+
+-- So it does in `apply_sxform`, where the rotation keeps -0.
+pub applied-zeros : appliedState (sxformOf unit unit) minusZeros ≡ zeroState
+unfolding zeroState add mul neg ofInt ofBits
+applied-zeros = refl
+
+-- A product: the quarter turn done twice.
+pub half-turn : productOf quarter quarter ≡ (minus 1 ∷ +0 ∷ +0 ∷ []) ∷ (+0 ∷ minus 1 ∷ +0 ∷ []) ∷ (+0 ∷ +0 ∷ whole 1 ∷ []) ∷ []
+unfolding add mul neg ofInt ofBits
+half-turn = refl
+
+-- The columns of (1, 2, 3), (4, 5, 6), (7, 8, 9).
+pub columns : transposeOf nine ≡ matrix 3 (λ i j. whole (3 * j + i + 1))
+columns = refl
+
+-- A sum of matrices.
+pub doubled : sumOf nine nine ≡ matrix 3 (λ i j. whole (2 * (3 * i + j + 1)))
+unfolding add ofInt
+doubled = refl
+
+-- A state matrix with derivative (1, 2, 3), (4, 5, 6), (7, 8, 9) adds its rows times the position to the velocity.
+pub moved : appliedState (sxformOf unit nine) counted ≡ state (whole 1) (whole 2) (whole 3) (whole 18) (whole 37) (whole 56)
+unfolding add mul ofInt ofBits
+moved = refl
+
+-- The same of the inverse: the columns (1, 4, 7), (2, 5, 8), (3, 6, 9) times the position.
+pub moved-back : appliedState (inverseOf (sxformOf unit nine)) counted ≡ state (whole 1) (whole 2) (whole 3) (whole 34) (whole 41) (whole 48)
+unfolding add mul ofInt ofBits
+moved-back = refl
+
+-- Negating turns +0 to -0.
+pub negated-zeros : negatedState zeroState ≡ minusZeros
+unfolding negatedState zeroState neg ofInt ofBits
+negated-zeros = refl
+
+-- 0 - 0 is +0, so that subtracting from zero is not negating.
+pub zero-less-zero : minusState zeroState zeroState ≡ zeroState
+unfolding minusState zeroState sub ofBits
+zero-less-zero = refl
+
+-- A sum that starts at +0 loses the sign of -0.
+pub zero-plus-minus-zero : plusState zeroState minusZeros ≡ zeroState
+unfolding plusState zeroState add neg ofInt ofBits
+zero-plus-minus-zero = refl
+
+-- Zero is finite, the largest finite double too; a NaN or an infinity in any one place is not.
+pub finites : map finiteState
+    (zeroState ∷ stateOf (λ k. ofBits binary64 0xffef_ffff_ffff_ffff) ∷ state nan +0 +0 +0 +0 +0 ∷ state +0 (inf true) +0 +0 +0 +0 ∷ state +0 +0 (inf false) +0 +0 +0
+    ∷ state +0 +0 +0 nan +0 +0 ∷ state +0 +0 +0 +0 (inf true) +0 ∷ state +0 +0 +0 +0 +0 (inf false) ∷ [])
+    ≡ true ∷ true ∷ false ∷ false ∷ false ∷ false ∷ false ∷ false ∷ []
+unfolding finiteState zeroState ofBits
+finites = refl

@@ -1,0 +1,73 @@
+-- 3 by 3 and 6 by 6 matrices, given row by row as lists of rows, and what they do to a state.
+-- Each matrix is said by one rule for the number in row i and column j. At the sizes 3 and 6 antt writes the rule out by computation.
+use Prim.Native.Nat.{ℕ, zero, suc, _+_, _-_}
+use mathlib.Core.Bool.{cond}
+use mathlib.Core.List.{List, [], _∷_}
+use lib.Dec.{ltb}
+use lib.ListN.{getD}
+use lib.Ieee.{Float}
+use Rattle.bits.specs.F64.{_⊕_, _⊗_, at, +0, sumTo, sumFrom0}
+use Rattle.frame.specs.State.{number, stateOf}
+use Rattle.frame.specs.declared.State.{State}
+use Rattle.frame.specs.declared.NaifFrame.{NaifFrame}
+use Rattle.frame.specs.declared.NaifFrame.the-variants.{J2000, EclipJ2000}
+
+-- A matrix, row by row.
+abbrev pub Matrix : Type 0
+Matrix = List (List Float)
+
+-- f 0, f 1, .. f (n - 1).
+abbrev pub table {ℓ} : {A : Type ℓ} → ℕ → (ℕ → A) → List A
+table zero f = []
+table (suc n) f = f zero ∷ table n (λ k. f (suc k))
+
+-- The n by n matrix with f i j in row i and column j.
+abbrev pub matrix : ℕ → (ℕ → ℕ → Float) → Matrix
+matrix n f = table n (λ i. table n (f i))
+
+-- What stands in row i and column j.
+abbrev pub cell : Matrix → ℕ → ℕ → Float
+cell m i j = at (getD m i []) j
+
+-- Row i of a 3 by 3 matrix times the vector v: the sum starts with its first product.
+abbrev pub turned : Matrix → (ℕ → Float) → ℕ → Float
+turned m v i = sumTo (λ j. cell m i j ⊗ v j) 2
+
+-- A state turned by a 3 by 3 matrix: the position, numbers 0 to 2, and the velocity, numbers 3 to 5, alike.
+abbrev pub turnedState : Matrix → State → State
+turnedState m s = stateOf (λ k. cond (ltb k 3) (turned m (number s) k) (turned m (λ j. number s (j + 3)) (k - 3)))
+
+-- Row i is column i.
+abbrev pub transposeOf : Matrix → Matrix
+transposeOf m = matrix 3 (λ i j. cell m j i)
+
+-- A state of the first frame in the second: m turns J2000 to ECLIPJ2000, its transpose turns back, and in its own frame a state stays as it stands.
+unfoldable pub turnedBetween : NaifFrame → NaifFrame → Matrix → State → State
+turnedBetween J2000 J2000 m s = s
+turnedBetween J2000 EclipJ2000 m s = turnedState m s
+turnedBetween EclipJ2000 J2000 m s = turnedState (transposeOf m) s
+turnedBetween EclipJ2000 EclipJ2000 m s = s
+
+-- The product of two 3 by 3 matrices: unlike the rotation's, each sum starts at +0.
+abbrev pub productOf : Matrix → Matrix → Matrix
+productOf a b = matrix 3 (λ i j. sumFrom0 (λ k. cell a i k ⊗ cell b k j) 3)
+
+-- The sum of two 3 by 3 matrices.
+abbrev pub sumOf : Matrix → Matrix → Matrix
+sumOf a b = matrix 3 (λ i j. cell a i j ⊕ cell b i j)
+
+-- The 6 by 6 matrix of four blocks, a and b above c and d, each by a rule over its own rows and columns.
+abbrev pub blocks : (ℕ → ℕ → Float) → (ℕ → ℕ → Float) → (ℕ → ℕ → Float) → (ℕ → ℕ → Float) → Matrix
+blocks a b c d = matrix 6 (λ i j. cond (ltb i 3) (cond (ltb j 3) (a i j) (b i (j - 3))) (cond (ltb j 3) (c (i - 3) j) (d (i - 3) (j - 3))))
+
+-- The state matrix of a rotation r and its derivative dr: blocks [r, 0], [dr, r].
+abbrev pub sxformOf : Matrix → Matrix → Matrix
+sxformOf r dr = blocks (cell r) (λ i j. +0) (cell dr) (cell r)
+
+-- Its inverse: each block of m transposed where it stands, and +0 in the upper right one.
+abbrev pub inverseOf : Matrix → Matrix
+inverseOf m = blocks (λ i j. cell m j i) (λ i j. +0) (λ i j. cell m (j + 3) i) (λ i j. cell m (j + 3) (i + 3))
+
+-- A 6 by 6 matrix times a state: each sum starts at +0.
+abbrev pub appliedState : Matrix → State → State
+appliedState m s = stateOf (λ i. sumFrom0 (λ j. cell m i j ⊗ number s j) 6)

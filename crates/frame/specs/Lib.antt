@@ -1,0 +1,4 @@
+-- What the contracts of `frame` cite: states, the matrices that turn them, and worked examples.
+pub mod State
+pub mod Frame
+pub mod Examples

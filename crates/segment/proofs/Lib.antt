@@ -1,0 +1,8 @@
+-- Laws that several functions' proofs cite, and what is proved of segments beyond the contracts.
+pub mod Tests
+pub mod Numbers
+pub mod Sizes
+pub mod Placed
+pub mod Forms
+pub mod Finding
+pub mod Judging

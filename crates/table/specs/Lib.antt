@@ -1,0 +1,4 @@
+-- The definitions that the contracts of `table` cite.
+pub mod Segments
+pub mod Places
+pub mod Marks

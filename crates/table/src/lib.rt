@@ -1,0 +1,97 @@
+// The segment table by value, and the marks that an SPK's opening sets.
+ghost use mathlib.Core.Path.{_≡_};
+ghost use Prim.Native.Nat.{_≤_};
+ghost use Rattle.table.specs.Segments.{isCovering, meets, samePair, overlaps, withMark};
+ghost use Rattle.table.specs.Places.{tableLimit, emptyTable};
+ghost use Rattle.table.specs.Marks.{rivals, marks};
+use segment::Segment;
+
+// The segments of an opened kernel, in file order: those below the count.
+pub struct Table {
+    pub segments: [Segment; 256],
+    pub count: usize,
+}
+
+impl Table {
+    // The most segments that a table holds.
+    pub const PLACES: usize = 256;
+
+    // The table of no segments.
+    pub fn empty() -> Self
+        ensures { λ r. ⌜ r ≡ emptyTable ⌝ }
+    {
+        Table {
+            segments: [Segment::EMPTY; 256],
+            count: 0,
+        }
+    }
+}
+
+// The segment covers this epoch.
+pub fn is_covering(s: Segment, et: f64) -> bool
+    ensures { λ r. ⌜ r ≡ isCovering s et ⌝ }
+{
+    s.first <= et && et <= s.last
+}
+
+// The times of two segments touch.
+fn meets(a: Segment, b: Segment) -> bool
+    ensures { λ r. ⌜ r ≡ meets a b ⌝ }
+{
+    a.first <= b.last && b.first <= a.last
+}
+
+// Two segments are of one pair.
+fn same_pair(a: Segment, b: Segment) -> bool
+    ensures { λ r. ⌜ r ≡ samePair a b ⌝ }
+{
+    a.target == b.target && a.center == b.center
+}
+
+// Two segments of one pair whose times touch.
+fn overlaps(a: Segment, b: Segment) -> bool
+    ensures { λ r. ⌜ r ≡ overlaps a b ⌝ }
+{
+    same_pair(a, b) && meets(a, b)
+}
+
+// Segment k, which is b, is another than segment i, which is a, and overlaps it.
+fn rivals(a: Segment, i: usize, b: Segment, k: usize) -> bool
+    ensures { λ r. ⌜ r ≡ rivals a i b k ⌝ }
+{
+    k != i && overlaps(a, b)
+}
+
+// The segment with this mark.
+fn with_mark(s: Segment, m: bool) -> Segment
+    ensures { λ r. ⌜ r ≡ withMark s m ⌝ }
+{
+    let mut out = s;
+    out.marked = m;
+    out
+}
+
+// The table with its marks: a segment is marked where no other of its pair overlaps it. Places past the count stay.
+// Both loops stand in one function: a scan of its own would take a copy of the table for each segment.
+pub fn marked_all(t: Table) -> Table
+    requires { ⌜ t .count ≤ tableLimit ⌝ }
+    ensures { λ r. ⌜ r ≡ marks t ⌝ }
+{
+    let n = t.count;
+    let mut out = t;
+    let mut i = 0;
+    while i < n {
+        let a = out.segments[i];
+        let mut met = false;
+        let mut j = n;
+        while 0 < j {
+            let k = j - 1;
+            let b = out.segments[k];
+            met = met | rivals(a, i, b, k);
+            j = k;
+        }
+        out.segments[i] = with_mark(a, !met);
+        i += 1;
+    }
+    out
+}
