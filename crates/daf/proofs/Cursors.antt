@@ -126,3 +126,35 @@ module _ (k : List ℕ) where
       by-test (ltb (c .index + 1) (c .count))
       (λ t. subst (Standing k) (sym (next-here c (ltb-true _ _ t))) ((λ l. s .0 h), s .1, s .2))
       (λ f. subst (Standing k) (sym (next-seek c _ (ltb-false _ _ f) refl)) (standing-seek (c .left) (nextOf k (c .rec)) (s .1) (s .2)))
+
+  -- ---- a cursor that is past its record's summaries is past them all
+
+  pub Proper : Cursor → Type 0
+  Proper c = c .count ≤ c .index → remaining k c ≡ []
+
+  pub proper-seek : (left r : ℕ) → Proper (seekOf k r left)
+  unfolding Proper seekOf remaining placesIn places along
+  proper-seek zero r = λ h. refl
+  proper-seek (suc left) r =
+      by-test (ltb 0 (countOf k r)) (λ t. rw t (λ h. absurd (none (ltb-true 0 (countOf k r) t) h))) (λ f. rw f (proper-seek left (nextOf k r)))
+    where
+      none : 0 < countOf k r → countOf k r ≤ 0 → ⊥
+      none a b = omega arith
+
+  pub proper-next : (c : Cursor) → Proper (nextCursor k c)
+  unfolding Proper
+  proper-next c =
+      by-test (ltb (c .index + 1) (c .count))
+      (λ t. subst Proper (sym (next-here c (ltb-true _ _ t))) (λ h. absurd (none (ltb-true (c .index + 1) (c .count) t) h)))
+      (λ f. subst Proper (sym (next-seek c _ (ltb-false _ _ f) refl)) (proper-seek (c .left) (nextOf k (c .rec))))
+    where
+      none : c .index + 1 < c .count → c .count ≤ c .index + 1 → ⊥
+      none a b = omega arith
+
+  pub proper-some : (c : Cursor) → Proper c → 0 < length (remaining k c) → c .index < c .count
+  unfolding Proper
+  proper-some c p h =
+      by-test (ltb (c .index) (c .count)) (λ t. ltb-true _ _ t) (λ f. absurd (nothing (ap length (p (ltb-false _ _ f))) h))
+    where
+      nothing : length (remaining k c) ≡ 0 → 0 < length (remaining k c) → ⊥
+      nothing e l = omega arith

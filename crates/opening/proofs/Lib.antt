@@ -1,0 +1,3 @@
+-- Laws of the opening.
+pub mod Reading
+pub mod Exact
