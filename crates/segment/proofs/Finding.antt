@@ -19,7 +19,7 @@ use Rattle.segment.specs.declared.Found.{Found}
 use Rattle.segment.specs.declared.Found.the-variants.{Kind as Makes, Malformed as Fails}
 
 -- a form that is not handled makes an unsupported kind
-not-handled : (form : Form) (t : Trailer) → handled form ≡ false → Unsupported ≡ kindWith form t
+pub not-handled : (form : Form) (t : Trailer) → handled form ≡ false → Unsupported ≡ kindWith form t
 not-handled Other t e = refl
 not-handled Two t e = absurd (true≢false e)
 not-handled Three t e = absurd (true≢false e)

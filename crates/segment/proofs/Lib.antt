@@ -6,3 +6,6 @@ pub mod Placed
 pub mod Forms
 pub mod Finding
 pub mod Judging
+pub mod Valued
+pub mod Same
+pub mod Fit

@@ -1,9 +1,11 @@
 -- The evaluation of one segment of a table, forged or not, on the kernel lent now.
-use Prim.Native.Nat.{ℕ, _+_, _*_}
+use Prim.Native.Nat.{ℕ, _+_, _*_, _≤_}
+use mathlib.Core.Path.{_≡_}
 use mathlib.Core.Bool.{Bool, true, false, not, _||_}
 use mathlib.Core.List.{List, [], _∷_}
 use lib.Dec.{eqb}
 use lib.IntN.{natAbs}
+use lib.ListN.{length}
 use lib.Ieee.{Float, eq}
 use Rattle.bits.specs.F64.{+0}
 use Rattle.bits.specs.Bytes.{doubleAt}
@@ -22,6 +24,7 @@ use Rattle.segment.specs.Kinds.{sameKind}
 use Rattle.segment.specs.Malformed.{coefficients, malformedIn, kindIn}
 use Rattle.segment.specs.declared.Kind.{Kind}
 use Rattle.segment.specs.declared.Kind.the-variants.{Unsupported, Type2, Type3, Type9, Type13}
+use Rattle.segment.specs.declared.Trailer.{Trailer}
 use Rattle.segment.specs.declared.Segment.{Segment}
 use Rattle.segment.specs.declared.Evaluated.{Evaluated}
 use Rattle.segment.specs.declared.Evaluated.the-variants.{State as Answer, Refused}
@@ -76,16 +79,43 @@ stateAt k a (Type3 init intlen rsize n) et = type3Of k (recordByte a init intlen
 stateAt k a (Type9 d n) et = type9Of k (byteOf a) n d et
 stateAt k a (Type13 d n) et = type13Of k (byteOf a) n d et
 
--- Refusals 12, 14, 13 and 16, in their order, of segment number i.
+-- Refusals 13 and 16 of segment number i.
+abbrev pub valueCases : List ℕ → ℕ → Kind → ℕ → Float → List Case
+valueCases k a kind i et = case (zeroRadius k a kind et) (ZeroRadius i) ∷ case (emptyWindow kind) (EmptyWindow i) ∷ []
+
+-- Refusals 12, 14, 13 and 16, in their order.
 abbrev pub cases : Family → List ℕ → Segment → ℕ → Float → List Case
 cases f k s i et =
-    case (unsupported (s .kind)) (TypeUnsupported (s .«data_type»))
-    ∷ case (unfit f k s) TableUnfit
-    ∷ case (zeroRadius k (natAbs (s .start)) (s .kind) et) (ZeroRadius i)
-    ∷ case (emptyWindow (s .kind)) (EmptyWindow i)
-    ∷ []
+    case (unsupported (s .kind)) (TypeUnsupported (s .«data_type»)) ∷ case (unfit f k s) TableUnfit ∷ valueCases k (natAbs (s .start)) (s .kind) i et
 
 -- The evaluation at et of segment number i.
 unfoldable pub evaluated : Family → List ℕ → Segment → ℕ → Float → Evaluated
-unfolding unfit zeroRadius emptyWindow stateAt
 evaluated f k s i et = firstOf (cases f k s i et) Refused (Answer (stateAt k (natAbs (s .start)) (s .kind) et))
+
+-- ---- what the small functions of the code do
+
+-- Behind refusals 12 and 14.
+unfoldable pub valued : List ℕ → ℕ → Kind → ℕ → Float → Evaluated
+valued k a kind i et = firstOf (valueCases k a kind i et) Refused (Answer (stateAt k a kind et))
+
+-- What the tests leave of a trailer of so many series, in a segment whose first address is a: N records lie in the kernel from there on.
+pub record Records (series : ℕ) (k : List ℕ) (a : ℕ) (t : Trailer) : Type 0 where
+  pub from : 1 ≤ a
+  pub some : 1 ≤ t .count
+  pub size : t .size ≡ 2 + series * coefficients series (t .size)
+  pub within : byteOf a + 8 * (t .count * t .size) ≤ length k
+
+-- The same of N states and their epochs, with a window of 32 at most.
+pub record States (k : List ℕ) (a d n : ℕ) : Type 0 where
+  pub from : 1 ≤ a
+  pub some : 1 ≤ n
+  pub window : windowSize d n ≤ 32
+  pub within : byteOf a + 56 * n ≤ length k
+
+-- By the kind.
+abbrev pub Sound : List ℕ → ℕ → Kind → Type 0
+Sound k a Unsupported = ⊥
+Sound k a (Type2 init intlen rsize n) = Records 3 k a (record { init = init; intlen = intlen; size = rsize; count = n })
+Sound k a (Type3 init intlen rsize n) = Records 6 k a (record { init = init; intlen = intlen; size = rsize; count = n })
+Sound k a (Type9 d n) = States k a d n
+Sound k a (Type13 d n) = States k a d n

@@ -52,7 +52,6 @@ statesAt k e = record { init = +0; intlen = +0; size = wholeNumber (doubleOfAddr
 
 -- The trailer of data in this form whose last double has address e.
 unfoldable pub trailerAt : List ℕ → Form → ℕ → Trailer
-unfolding wholeNumber
 trailerAt k Other e = noTrailer
 trailerAt k Two e = recordsAt k e
 trailerAt k Three e = recordsAt k e
@@ -69,7 +68,6 @@ kindWith Thirteen t = Type13 (t .size) (t .count)
 
 -- The kind of a segment of this type that ends at this address.
 unfoldable pub kindOf : Family → List ℕ → ℤ → ℤ → Kind
-unfolding formOf trailerAt
 kindOf f k t end = kindWith (formOf f t) (trailerAt k (formOf f t) (natAbs end))
 
 -- The type of a kind, and its trailer.

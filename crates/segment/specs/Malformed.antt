@@ -84,7 +84,6 @@ badData k form a e = ltb (lengthOf a e) (trailerSize form) || badTrailer form (t
 
 -- Refusal 9. Unsupported types get only the NaN test.
 unfoldable pub malformed : Family → List ℕ → Float → Float → ℤ → ℤ → ℤ → Bool
-unfolding formOf trailerAt
 malformed f k first last t start end =
     limitNan first last || (handled (formOf f t) && (misplaced (wholeDoubles k) start end || badData k (formOf f t) (natAbs start) (natAbs end)))
 
@@ -98,7 +97,6 @@ kindIn f k s = kindOf f k (s .«data_type») (s .end)
 
 -- What the tests find.
 unfoldable pub found : Family → List ℕ → Segment → Found
-unfolding malformed kindOf
 found f k s = cond (malformedIn f k s) Fails (Makes (kindIn f k s))
 
 -- A summary's segment with this kind, unmarked.
@@ -124,6 +122,5 @@ segmentOf f k s = segmentWith s (kindOf f k (s .«data_type») (s .end))
 
 -- What a summary comes to at the opening.
 unfoldable pub judged : Family → List ℕ → Summary → Judged
-unfolding malformed kindOf
 judged f k s =
     cond (malformed f k (s .first) (s .last) (s .«data_type») (s .start) (s .end)) Malformed (Accepted (segmentOf f k s))

@@ -6,10 +6,11 @@ ghost use lib.Dec.{T};
 ghost use lib.IntN.{natAbs};
 ghost use lib.Signed.{nonNeg};
 ghost use lib.ListN.{length};
-ghost use Rattle.daf.specs.Addresses.{wholeDoubles, doubleOfAddress};
+ghost use Rattle.daf.specs.Addresses.{byteOf, doubleOfAddress};
 ghost use Rattle.segment.specs.Kinds.{formOf, handled, wholeNumber, recordsAt, statesAt, trailerAt, kindWith, typeIn, trailerIn, sameTrailer, sameKind};
 ghost use Rattle.segment.specs.Malformed.{limitNan, misplaced, trailerSize, coefficients, badSize, badInterval, overruns, badRecords, badLength, badStates, badTrailer, found, segmentWith, judged};
-//ghost use Rattle.segment.specs.Evaluating.{unfit, evaluated};
+ghost use Rattle.segment.specs.Evaluating.{unsupported, unfit, recordByte, evaluated, valued, Records, States, Sound};
+use cheby::Cheby;
 use daf::Family;
 use daf::Summary;
 use frame::State;
@@ -534,4 +535,157 @@ fn same_kind(a: Kind, b: Kind) -> bool
     ensures { λ r. ⌜ r ≡ sameKind a b ⌝ }
 {
     type_in(a) == type_in(b) && same_trailer(trailer_in(a), trailer_in(b))
+}
+
+// The kind is unsupported.
+fn unsupported(kind: Kind) -> bool
+    ensures { λ r. ⌜ r ≡ unsupported kind ⌝ }
+{
+    match kind {
+        Kind::Unsupported => true,
+        Kind::Type2 {
+            init: _,
+            intlen: _,
+            rsize: _,
+            count: _,
+        } => false,
+        Kind::Type3 {
+            init: _,
+            intlen: _,
+            rsize: _,
+            count: _,
+        } => false,
+        Kind::Type9 {
+            degree: _,
+            count: _,
+        } => false,
+        Kind::Type13 {
+            degree: _,
+            count: _,
+        } => false,
+    }
+}
+
+// The tests repeated on this kernel fail, or they find another kind than the table's.
+fn unfit(kernel: &[u8], family: Family, s: Segment) -> bool
+    ensures { λ r. ⌜ r ≡ unfit family (now (kernel .entry)) s ⌝ }
+{
+    let found = find(kernel, family, s);
+    match found {
+        Found::Malformed => true,
+        Found::Kind(kind) => {
+            let own = s.kind;
+            !same_kind(kind, own)
+        }
+    }
+}
+
+// The byte at which the record for et starts, in a segment whose first address is `start`.
+fn record_byte(kernel: &[u8], start: usize, t: Trailer, et: f64) -> usize
+    requires { ⌜ (1 ≤ start) × (1 ≤ t .count) × (byteOf start + 8 * (t .count * t .size) ≤ length (now kernel)) ⌝ }
+    ensures { λ r. ⌜ r ≡ recordByte start (t .init) (t .intlen) (t .size) (t .count) et ⌝ }
+{
+    let r = cheby::record_at(t.init, t.intlen, et, t.count);
+    8 * (start - 1) + 8 * (t.size * r) as usize
+}
+
+// A type 2 segment at et.
+fn type2(kernel: &[u8], start: usize, t: Trailer, number: u32, et: f64) -> Evaluated
+    requires { ⌜ Records 3 (now kernel) start t ⌝ }
+    ensures { λ r. ⌜ r ≡ valued (now (kernel .entry)) start (Kind.Type2 (t .init) (t .intlen) (t .size) (t .count)) number et ⌝ }
+{
+    let p = record_byte(kernel, start, t, et);
+    let c = coefficients(3, t.size) as usize;
+    let value = cheby::type2_at(kernel, p, c, et);
+    match value {
+        Cheby::Value(state) => Evaluated::State(state),
+        Cheby::NoRadius => Evaluated::Refused(Refusal::ZeroRadius(number)),
+    }
+}
+
+// A type 3 segment at et: no RADIUS is refused.
+fn type3(kernel: &[u8], start: usize, t: Trailer, number: u32, et: f64) -> Evaluated
+    requires { ⌜ Records 6 (now kernel) start t ⌝ }
+    ensures { λ r. ⌜ r ≡ valued (now (kernel .entry)) start (Kind.Type3 (t .init) (t .intlen) (t .size) (t .count)) number et ⌝ }
+{
+    let p = record_byte(kernel, start, t, et);
+    let c = coefficients(6, t.size) as usize;
+    Evaluated::State(cheby::type3_at(kernel, p, c, et))
+}
+
+// A type 9 segment at et.
+fn type9(kernel: &[u8], start: usize, degree: u64, n: u64, number: u32, et: f64) -> Evaluated
+    requires { ⌜ States (now kernel) start degree n ⌝ }
+    ensures { λ r. ⌜ r ≡ valued (now (kernel .entry)) start (Kind.Type9 degree n) number et ⌝ }
+{
+    if interp::window_size(degree, n) == 0 {
+        return Evaluated::Refused(Refusal::EmptyWindow(number));
+    }
+    Evaluated::State(interp::type9_at(kernel, 8 * (start - 1), n as usize, degree, et))
+}
+
+// A type 13 segment at et.
+fn type13(kernel: &[u8], start: usize, degree: u64, n: u64, number: u32, et: f64) -> Evaluated
+    requires { ⌜ States (now kernel) start degree n ⌝ }
+    ensures { λ r. ⌜ r ≡ valued (now (kernel .entry)) start (Kind.Type13 degree n) number et ⌝ }
+{
+    if interp::window_size(degree, n) == 0 {
+        return Evaluated::Refused(Refusal::EmptyWindow(number));
+    }
+    Evaluated::State(interp::type13_at(kernel, 8 * (start - 1), n as usize, degree, et))
+}
+
+// A segment of a kind that the tests let pass, at et.
+fn value(kernel: &[u8], start: usize, kind: Kind, number: u32, et: f64) -> Evaluated
+    requires { ⌜ Sound (now kernel) start kind ⌝ }
+    ensures { λ r. ⌜ r ≡ valued (now (kernel .entry)) start kind number et ⌝ }
+{
+    match kind {
+        // no test lets it pass
+        Kind::Unsupported => Evaluated::Refused(Refusal::TableUnfit),
+        Kind::Type2 {
+            init,
+            intlen,
+            rsize,
+            count,
+        } => {
+            let t = Trailer {
+                init: init,
+                intlen: intlen,
+                size: rsize,
+                count: count,
+            };
+            type2(kernel, start, t, number, et)
+        }
+        Kind::Type3 {
+            init,
+            intlen,
+            rsize,
+            count,
+        } => {
+            let t = Trailer {
+                init: init,
+                intlen: intlen,
+                size: rsize,
+                count: count,
+            };
+            type3(kernel, start, t, number, et)
+        }
+        Kind::Type9 { degree, count } => type9(kernel, start, degree, count, number, et),
+        Kind::Type13 { degree, count } => type13(kernel, start, degree, count, number, et),
+    }
+}
+
+// Segment number `number`, evaluated at et on the kernel lent now.
+pub fn evaluate(kernel: &[u8], family: Family, s: Segment, number: u32, et: f64) -> Evaluated
+    ensures { λ r. ⌜ r ≡ evaluated family (now (kernel .entry)) s number et ⌝ }
+{
+    let kind = s.kind;
+    if unsupported(kind) {
+        return Evaluated::Refused(Refusal::Unsupported(s.data_type));
+    }
+    if unfit(kernel, family, s) {
+        return Evaluated::Refused(Refusal::TableUnfit);
+    }
+    value(kernel, start_of(s), kind, number, et)
 }
