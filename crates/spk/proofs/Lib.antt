@@ -1,0 +1,4 @@
+-- Laws that belong to no one function.
+pub mod Settling
+pub mod Scan
+pub mod Order
