@@ -2,3 +2,4 @@
 pub mod Settling
 pub mod Scan
 pub mod Order
+pub mod Single

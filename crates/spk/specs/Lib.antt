@@ -4,3 +4,5 @@ pub mod Choosing
 pub mod Scanning
 pub mod Answers
 pub mod Asking
+pub mod Turning
+pub mod Alone

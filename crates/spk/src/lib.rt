@@ -11,8 +11,11 @@ ghost use Rattle.spk.specs.Choosing.{rememberedAt};
 ghost use Rattle.spk.specs.Scanning.{placeOf, hitAt};
 ghost use Rattle.spk.specs.Answers.{answerOf, refusedAnswer, sameAnswer, settled, negatedOf, lessOf};
 ghost use Rattle.spk.specs.Asking.{legFrom, chained, asked};
+ghost use Rattle.spk.specs.Turning.{frameOf, isRefused, turnedTo, turnedAnswer, turnedAsked, askedIn};
+ghost use Rattle.spk.specs.Alone.{aloneAnswer};
 use chain::Leg;
 use daf::Family;
+use frame::NaifFrame;
 use frame::State;
 use refusal::Refusal;
 use segment::Evaluated;
@@ -41,6 +44,12 @@ pub enum Way {
     Reversed(usize),
     Chained,
     Refused(Refusal),
+}
+
+// The frame that a state is asked in: none, so that it is given as it stands, or one of the two.
+pub enum Wanted {
+    AsItStands,
+    In(NaifFrame),
 }
 
 // An answer: its way and the state, six zeros where it is a refusal.
@@ -128,6 +137,20 @@ impl Memory {
     }
 }
 
+impl Way {
+    fn is_refused(self) -> bool
+        ensures { λ r. ⌜ r ≡ isRefused self ⌝ }
+    {
+        match self {
+            Way::Same => false,
+            Way::Forward(_) => false,
+            Way::Reversed(_) => false,
+            Way::Chained => false,
+            Way::Refused(_) => true,
+        }
+    }
+}
+
 impl Answer {
     // Every answer is made here.
     fn new(way: Way, state: State) -> Answer
@@ -168,6 +191,36 @@ impl Answer {
             }
         }
     }
+
+    // The frame that the state is in: every segment is taken to be in J2000.
+    fn frame(self) -> NaifFrame
+        ensures { λ r. ⌜ r ≡ frameOf self ⌝ }
+    {
+        NaifFrame::J2000
+    }
+
+    // The answer turned to a frame: the state's refusal first, then 15 of the turned state.
+    fn turned_to(self, to: NaifFrame, rot: [[f64; 3]; 3]) -> Answer
+        ensures { λ r. ⌜ r ≡ turnedTo to rot self ⌝ }
+    {
+        let way = self.way;
+        if way.is_refused() {
+            return self;
+        }
+        let state = self.state;
+        let turned = frame::rotate_state(self.frame(), to, rot, state);
+        Answer::settled(way, Evaluated::State(turned))
+    }
+
+    // The answer in the frame that it is asked in: J2000 to ECLIPJ2000 by the matrix `rot`, given row by row.
+    pub fn turned(self, wanted: Wanted, rot: [[f64; 3]; 3]) -> Answer
+        ensures { λ r. ⌜ r ≡ turnedAnswer wanted rot self ⌝ }
+    {
+        match wanted {
+            Wanted::AsItStands => self,
+            Wanted::In(to) => self.turned_to(to, rot),
+        }
+    }
 }
 
 // All six numbers negated.
@@ -190,13 +243,23 @@ fn less(a: State, e: Evaluated) -> Evaluated
     }
 }
 
+// Segment i answers in its own direction.
+fn evaluated_at(kernel: &[u8], i: usize, s: Segment, et: f64) -> Answer
+    requires { ⌜ i < tableLimit ⌝ }
+    ensures { λ r. ⌜ r ≡ settled (Way.Forward i) (evaluated Spk (now (kernel .entry)) s i et) ⌝ }
+{
+    Answer::settled(
+        Way::Forward(i),
+        segment::evaluate(kernel, Family::Spk, s, i as u32, et),
+    )
+}
+
 // Segment i, which was chosen forward, answers; and it is remembered if it is marked, whatever evaluating it comes to.
 fn forward(kernel: &[u8], memory: Memory, i: usize, s: Segment, et: f64) -> Asked
     requires { ⌜ i < tableLimit ⌝ }
     ensures { λ r. ⌜ r ≡ record { answer = settled (Way.Forward i) (evaluated Spk (now (kernel .entry)) s i et); memory = rememberedAt memory i s } ⌝ }
 {
-    let e = segment::evaluate(kernel, Family::Spk, s, i as u32, et);
-    let answer = Answer::settled(Way::Forward(i), e);
+    let answer = evaluated_at(kernel, i, s, et);
     let kept = memory.after(i, s);
     Asked {
         answer: answer,
@@ -303,4 +366,39 @@ pub fn state(kernel: &[u8], table: Table, memory: Memory, q: Question) -> Asked
         }
         Choice::Nothing => unchanged(chained(kernel, table, q), memory),
     }
+}
+
+// A question in a frame.
+pub fn state_in(
+    kernel: &[u8],
+    table: Table,
+    memory: Memory,
+    q: Question,
+    wanted: Wanted,
+    rot: [[f64; 3]; 3],
+) -> Asked
+    ensures { λ r. ⌜ r ≡ askedIn tableLimit (now (kernel .entry)) (table .segments) (table .count) memory q wanted rot ⌝ }
+{
+    let asked = state(kernel, table, memory, q);
+    let answer = asked.answer;
+    let kept = asked.memory;
+    unchanged(answer.turned(wanted, rot), kept)
+}
+
+// A segment evaluated alone by its number, covering or not.
+pub fn alone(kernel: &[u8], table: Table, number: usize, et: f64) -> Answer
+    ensures { λ r. ⌜ r ≡ aloneAnswer tableLimit (now (kernel .entry)) (table .segments) (table .count) number et ⌝ }
+{
+    let n = table.count;
+    if Table::PLACES < n {
+        return Answer::refused(Refusal::TableUnfit);
+    }
+    if et != et {
+        return Answer::refused(Refusal::EpochNan);
+    }
+    if n <= number {
+        return Answer::refused(Refusal::NoSegment);
+    }
+    let s = table.segments[number];
+    evaluated_at(kernel, number, s, et)
 }

@@ -71,7 +71,6 @@ ended c =
           ∙ else-nothing (at .kept),
     )
 
-
 is-same-requires : tie.Need-is-same-requires Inv-loop μ-loop
 is-same-requires c κs = search needs
 
