@@ -1,2 +1,3 @@
 -- Laws that callers cite.
 pub mod Marks
+pub mod Last

@@ -1,4 +1,5 @@
 -- The definitions that the contracts of `table` cite.
 pub mod Segments
 pub mod Places
+pub mod Choosing
 pub mod Marks

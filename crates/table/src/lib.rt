@@ -27,6 +27,12 @@ impl Table {
     }
 }
 
+// The segment that was chosen, by its number, or that there is none.
+pub enum Choice {
+    At(usize),
+    Nothing,
+}
+
 // The segment covers this epoch.
 pub fn is_covering(s: Segment, et: f64) -> bool
     ensures { λ r. ⌜ r ≡ isCovering s et ⌝ }

@@ -1,0 +1,48 @@
+-- Laws of the walk: of `advance`, one for each way through the code, and of `walkFrom`, its end and a step. Assumes nothing.
+use mathlib.Core.Path.{_≡_, refl, sym, ap, _∙_}
+use mathlib.Core.Bool.{Bool, true, false, cond}
+use mathlib.Core.List.{List}
+use Prim.Native.Nat.{ℕ, suc}
+use Rattle.frame.specs.declared.State.{State}
+use Rattle.segment.specs.declared.Segment.{Segment}
+use Rattle.segment.specs.declared.Evaluated.{Evaluated}
+use Rattle.segment.specs.declared.Evaluated.the-variants as evaluation
+use Rattle.chain.specs.declared.Leg.{Leg}
+use Rattle.chain.specs.declared.Hop.{Hop}
+use Rattle.chain.specs.declared.Step.{Step}
+use Rattle.chain.specs.declared.Step.the-variants.{Blocked, Kept, Home, Refused}
+use Rattle.chain.specs.declared.Next.{Next}
+use Rattle.chain.specs.declared.Next.the-variants.{Ended, Onward}
+use Rattle.chain.specs.Step.{stepFrom}
+use Rattle.chain.specs.Walk.{chainLimit, noCoverage, onward, returns, advance, follow, walkFrom, isHome, toZero}
+
+-- two legs are equal by their fields
+pub leg-eq : (a b : Leg) → a .start ≡ b .start → a .body ≡ b .body → a .et ≡ b .et → a .total ≡ b .total → a ≡ b
+leg-eq a b p q e t = λ i. record { start = p i; body = q i; et = e i; total = t i }
+
+-- what a hop leads to, by whether it goes back to the starting body
+pub advance-kept : (leg : Leg) (step : Step) (hop : Hop) (b : Bool) → step ≡ Kept hop → returns leg hop ≡ b
+    → advance leg step ≡ cond b (Ended (noCoverage (leg .start))) (Onward (onward leg hop))
+advance-kept leg step hop b e r =
+    ap (advance leg) e ∙ ap (λ (x : Bool). cond x (Ended (noCoverage (leg .start))) (Onward (onward leg hop))) r
+
+module _ (k : List ℕ) (segs : List Segment) (n : ℕ) (leg : Leg) where
+  -- no step is left
+  pub walk-end : (left : ℕ) → left ≡ 0 → walkFrom k segs n leg left ≡ noCoverage (leg .start)
+  unfolding walkFrom
+  walk-end left e = ap (walkFrom k segs n leg) e
+
+  -- a step, whatever it leads to
+  pub walk-step : (left less : ℕ) (next : Next) → left ≡ suc less → advance leg (stepFrom k segs n leg) ≡ next
+      → walkFrom k segs n leg left ≡ follow (λ on. walkFrom k segs n on less) next
+  unfolding walkFrom
+  walk-step left less next e h = ap (walkFrom k segs n leg) e ∙ ap (follow (λ on. walkFrom k segs n on less)) h
+
+  -- body 0 takes no step, and any other walks
+  pub zero-home : isHome leg ≡ true → toZero k segs n leg ≡ evaluation.State (leg .total)
+  unfolding toZero
+  zero-home e = ap (λ (b : Bool). cond b (evaluation.State (leg .total)) (walkFrom k segs n leg chainLimit)) e
+
+  pub zero-walk : isHome leg ≡ false → toZero k segs n leg ≡ walkFrom k segs n leg chainLimit
+  unfolding toZero
+  zero-walk e = ap (λ (b : Bool). cond b (evaluation.State (leg .total)) (walkFrom k segs n leg chainLimit)) e

@@ -1,0 +1,69 @@
+-- One step of a chain: the scan of the segments that leave the current body. Assumes nothing: these are definitions.
+use Prim.Native.Nat.{ℕ, zero, suc, _+_}
+use mathlib.Core.Bool.{Bool, true, false, cond, _&&_}
+use mathlib.Core.List.{List}
+use lib.IntN.{pos}
+use Rattle.bits.specs.Same.{sameZ}
+use Rattle.frame.specs.declared.State.{State}
+use Rattle.refusal.specs.declared.Refusal.{Refusal}
+use Rattle.daf.specs.declared.Family.the-variants.{Spk}
+use Rattle.segment.specs.declared.Segment.{Segment}
+use Rattle.segment.specs.declared.Evaluated.{Evaluated}
+use Rattle.segment.specs.declared.Evaluated.the-variants as evaluation
+use Rattle.segment.specs.Evaluating.{evaluated}
+use Rattle.table.specs.Segments.{isCovering, seg}
+use Rattle.chain.specs.declared.Leg.{Leg}
+use Rattle.chain.specs.declared.Step.{Step}
+use Rattle.chain.specs.declared.Step.the-variants.{Blocked, Kept, Home, Refused}
+
+-- The segment's target is the current body, and it covers the epoch.
+abbrev pub leaves : Segment → Leg → Bool
+leaves s leg = sameZ (s .target) (leg .body) && isCovering s (leg .et)
+
+-- The segment's center is body 0.
+abbrev pub goesHome : Segment → Bool
+goesHome s = sameZ (s .center) (pos 0)
+
+-- The first segment that was met stays.
+abbrev pub keptOr : Step → Step → Step
+keptOr Blocked next = next
+keptOr (Kept hop) next = Kept hop
+keptOr (Home x) next = Home x
+keptOr (Refused r) next = Refused r
+
+-- The scan with one more segment, whose state is x: the first whose center is 0 is taken, else the first.
+unfoldable pub met : Step → Segment → State → Step
+met kept s x = cond (goesHome s) (Home x) (keptOr kept (Kept (record { center = s .center; state = x })))
+
+-- The same by what evaluating it came to: any refusal ends all.
+abbrev pub seen : Step → Segment → Evaluated → Step
+seen kept s (evaluation.State x) = met kept s x
+seen kept s (evaluation.Refused r) = Refused r
+
+-- The scan with segment i: each covering segment of the current body is evaluated, the others are passed over.
+unfoldable pub look : List ℕ → Leg → Step → Segment → ℕ → Step
+look k leg kept s i = cond (leaves s leg) (seen kept s (evaluated Spk k s i (leg .et))) kept
+
+-- A segment whose center is 0 and a refusal end the scan.
+abbrev pub isEnd : Step → Bool
+isEnd Blocked = false
+isEnd (Kept hop) = false
+isEnd (Home x) = true
+isEnd (Refused r) = true
+
+-- The place that the scan looks at next, of n.
+abbrev pub placeAfter : Step → ℕ → ℕ → ℕ
+placeAfter step i n = cond (isEnd step) n (i + 1)
+
+-- The scan goes on over r segments from number i on. There is one recursive call: with one in each arm of a `cond` a closed case
+-- would take 2 ^ r steps.
+unfoldable pub stepIn : List ℕ → List Segment → Leg → Step → ℕ → ℕ → Step
+stepIn k segs leg kept i zero = kept
+stepIn k segs leg kept i (suc r) =
+    let next = look k leg kept (seg segs i) i in
+    let rest = stepIn k segs leg next (suc i) r in
+    cond (isEnd next) next rest
+
+-- The step from a leg's body over the first n segments, in file order.
+unfoldable pub stepFrom : List ℕ → List Segment → ℕ → Leg → Step
+stepFrom k segs n leg = stepIn k segs leg Blocked 0 n

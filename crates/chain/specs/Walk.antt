@@ -1,0 +1,59 @@
+-- The walk towards body 0, by recursion on the steps left. Assumes nothing: these are definitions.
+use Prim.Native.Nat.{ℕ, zero, suc}
+use mathlib.Core.Bool.{Bool, cond}
+use mathlib.Core.List.{List}
+use lib.IntN.{ℤ, pos}
+use Rattle.bits.specs.Same.{sameZ}
+use Rattle.frame.specs.State.{plusState}
+use Rattle.refusal.specs.declared.Refusal.the-variants.{NoCoverage}
+use Rattle.segment.specs.declared.Segment.{Segment}
+use Rattle.segment.specs.declared.Evaluated.{Evaluated}
+use Rattle.segment.specs.declared.Evaluated.the-variants as evaluation
+use Rattle.chain.specs.declared.Leg.{Leg}
+use Rattle.chain.specs.declared.Hop.{Hop}
+use Rattle.chain.specs.declared.Step.{Step}
+use Rattle.chain.specs.declared.Step.the-variants.{Blocked, Kept, Home, Refused}
+use Rattle.chain.specs.declared.Next.{Next}
+use Rattle.chain.specs.declared.Next.the-variants.{Ended, Onward}
+use Rattle.chain.specs.Step.{stepFrom}
+
+-- The most steps of a walk.
+abbrev pub chainLimit : ℕ
+chainLimit = 32
+
+-- Refusal 11 for a body.
+abbrev pub noCoverage : ℤ → Evaluated
+noCoverage body = evaluation.Refused (NoCoverage body)
+
+-- The leg after a hop: its center is the current body, and its state joins the sum.
+abbrev pub onward : Leg → Hop → Leg
+onward leg hop = record { start = leg .start; body = hop .center; et = leg .et; total = plusState (leg .total) (hop .state) }
+
+-- The hop goes back to the starting body.
+abbrev pub returns : Leg → Hop → Bool
+returns leg hop = sameZ (hop .center) (leg .start)
+
+-- What a step leads to. No covering segment is 11 for the current body, returning to the starting body is 11 for that one.
+abbrev pub advance : Leg → Step → Next
+advance leg Blocked = Ended (noCoverage (leg .body))
+advance leg (Kept hop) = cond (returns leg hop) (Ended (noCoverage (leg .start))) (Onward (onward leg hop))
+advance leg (Home x) = Ended (evaluation.State (plusState (leg .total) x))
+advance leg (Refused r) = Ended (evaluation.Refused r)
+
+-- What the walk comes to, where `go` says what it comes to from the next leg on.
+abbrev pub follow : (Leg → Evaluated) → Next → Evaluated
+follow go (Ended e) = e
+follow go (Onward leg) = go leg
+
+-- A walk of at most so many steps. None left without body 0 is 11 for the starting body.
+unfoldable pub walkFrom : List ℕ → List Segment → ℕ → Leg → ℕ → Evaluated
+walkFrom k segs n leg zero = noCoverage (leg .start)
+walkFrom k segs n leg (suc left) = follow (λ on. walkFrom k segs n on left) (advance leg (stepFrom k segs n leg))
+
+-- The leg's body is body 0.
+abbrev pub isHome : Leg → Bool
+isHome leg = sameZ (leg .body) (pos 0)
+
+-- The state of a leg's body about body 0. Body 0 itself takes no step.
+unfoldable pub toZero : List ℕ → List Segment → ℕ → Leg → Evaluated
+toZero k segs n leg = cond (isHome leg) (evaluation.State (leg .total)) (walkFrom k segs n leg chainLimit)

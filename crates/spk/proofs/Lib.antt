@@ -1,0 +1,5 @@
+-- Laws that belong to no one function.
+pub mod Settling
+pub mod Scan
+pub mod Order
+pub mod Single

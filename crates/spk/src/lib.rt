@@ -1,0 +1,404 @@
+// Questions to an opened SPK: which segment answers, the memory, the chain, and the frame that a state is asked in.
+ghost use mathlib.Core.Path.{_≡_};
+ghost use Prim.Native.Nat.{_≤_, _<_};
+ghost use Rattle.daf.specs.declared.Family.the-variants.{Spk};
+ghost use Rattle.frame.specs.State.{zeroState};
+ghost use Rattle.segment.specs.Evaluating.{evaluated};
+ghost use Rattle.table.specs.Places.{tableLimit};
+ghost use Rattle.table.specs.Choosing.{orElse};
+ghost use Rattle.spk.specs.Questions.{isSame, swapped, isPair, hits, serves};
+ghost use Rattle.spk.specs.Choosing.{rememberedAt};
+ghost use Rattle.spk.specs.Scanning.{placeOf, hitAt};
+ghost use Rattle.spk.specs.Answers.{answerOf, refusedAnswer, sameAnswer, settled, negatedOf, lessOf};
+ghost use Rattle.spk.specs.Asking.{legFrom, chained, asked};
+ghost use Rattle.spk.specs.Turning.{frameOf, isRefused, turnedTo, turnedAnswer, turnedAsked, askedIn};
+ghost use Rattle.spk.specs.Alone.{aloneAnswer};
+use chain::Leg;
+use daf::Family;
+use frame::NaifFrame;
+use frame::State;
+use refusal::Refusal;
+use segment::Evaluated;
+use segment::Segment;
+use table::Choice;
+use table::Table;
+
+// The state of a target about a center at an epoch. It goes from function to function as a struct: a signed number that is passed by
+// itself is read back from its bits at each call.
+pub struct Question {
+    pub target: i32,
+    pub center: i32,
+    pub et: f64,
+}
+
+// The segment that the last forward choice of a marked segment chose.
+pub enum Memory {
+    Blank,
+    Kept(usize),
+}
+
+// How a question was answered, with the number of the segment where one alone answers.
+pub enum Way {
+    Same,
+    Forward(usize),
+    Reversed(usize),
+    Chained,
+    Refused(Refusal),
+}
+
+// The frame that a state is asked in: none, so that it is given as it stands, or one of the two.
+pub enum Wanted {
+    AsItStands,
+    In(NaifFrame),
+}
+
+// An answer: its way and the state, six zeros where it is a refusal.
+pub struct Answer {
+    pub way: Way,
+    pub state: State,
+}
+
+// An answer, with what is remembered after it.
+pub struct Asked {
+    pub answer: Answer,
+    pub memory: Memory,
+}
+
+impl Question {
+    // Target equals center.
+    fn is_same(self) -> bool
+        ensures { λ r. ⌜ r ≡ isSame self ⌝ }
+    {
+        self.target == self.center
+    }
+
+    // The same question with the pair swapped.
+    fn swapped(self) -> Question
+        ensures { λ r. ⌜ r ≡ swapped self ⌝ }
+    {
+        Question {
+            target: self.center,
+            center: self.target,
+            et: self.et,
+        }
+    }
+
+    // The walk of the target to body 0.
+    fn leg(self) -> Leg
+        ensures { λ r. ⌜ r ≡ legFrom self ⌝ }
+    {
+        let total = State::zero();
+        Leg {
+            start: self.target,
+            body: self.target,
+            et: self.et,
+            total: total,
+        }
+    }
+
+    // The segment is of this pair.
+    fn is_pair(self, s: Segment) -> bool
+        ensures { λ r. ⌜ r ≡ isPair s self ⌝ }
+    {
+        s.target == self.target && s.center == self.center
+    }
+
+    // The segment is of this pair and covers the epoch.
+    fn hits(self, s: Segment) -> bool
+        ensures { λ r. ⌜ r ≡ hits self s ⌝ }
+    {
+        self.is_pair(s) && table::is_covering(s, self.et)
+    }
+
+    // The segment serves from memory.
+    fn serves(self, s: Segment) -> bool
+        ensures { λ r. ⌜ r ≡ serves self s ⌝ }
+    {
+        s.marked && self.hits(s)
+    }
+}
+
+impl Memory {
+    // The remembered segment's number; where there is none, one that no table has.
+    fn place(self) -> usize
+        ensures { λ r. ⌜ r ≡ placeOf self ⌝ }
+    {
+        match self {
+            Memory::Blank => Table::PLACES,
+            Memory::Kept(i) => i,
+        }
+    }
+
+    // What is remembered after segment i was chosen forward.
+    fn after(self, i: usize, s: Segment) -> Memory
+        ensures { λ r. ⌜ r ≡ rememberedAt self i s ⌝ }
+    {
+        if s.marked { Memory::Kept(i) } else { self }
+    }
+}
+
+impl Way {
+    fn is_refused(self) -> bool
+        ensures { λ r. ⌜ r ≡ isRefused self ⌝ }
+    {
+        match self {
+            Way::Same => false,
+            Way::Forward(_) => false,
+            Way::Reversed(_) => false,
+            Way::Chained => false,
+            Way::Refused(_) => true,
+        }
+    }
+}
+
+impl Answer {
+    // Every answer is made here.
+    fn new(way: Way, state: State) -> Answer
+        ensures { λ r. ⌜ r ≡ answerOf way state ⌝ }
+    {
+        Answer {
+            way: way,
+            state: state,
+        }
+    }
+
+    // Six zeros, for target equal to center.
+    fn same() -> Answer
+        ensures { λ r. ⌜ r ≡ sameAnswer ⌝ }
+    {
+        Answer::new(Way::Same, State::zero())
+    }
+
+    // A refusal.
+    fn refused(r: Refusal) -> Answer
+        ensures { λ a. ⌜ a ≡ refusedAnswer r ⌝ }
+    {
+        Answer::new(Way::Refused(r), State::zero())
+    }
+
+    // The answer by a way, of what was evaluated: its refusal, then 15, then the state.
+    fn settled(way: Way, e: Evaluated) -> Answer
+        ensures { λ r. ⌜ r ≡ settled way e ⌝ }
+    {
+        match e {
+            Evaluated::Refused(r) => Answer::refused(r),
+            Evaluated::State(s) => {
+                if s.is_finite() {
+                    Answer::new(way, s)
+                } else {
+                    Answer::refused(Refusal::NotFinite)
+                }
+            }
+        }
+    }
+
+    // The frame that the state is in: every segment is taken to be in J2000.
+    fn frame(self) -> NaifFrame
+        ensures { λ r. ⌜ r ≡ frameOf self ⌝ }
+    {
+        NaifFrame::J2000
+    }
+
+    // The answer turned to a frame: the state's refusal first, then 15 of the turned state.
+    fn turned_to(self, to: NaifFrame, rot: [[f64; 3]; 3]) -> Answer
+        ensures { λ r. ⌜ r ≡ turnedTo to rot self ⌝ }
+    {
+        let way = self.way;
+        if way.is_refused() {
+            return self;
+        }
+        let state = self.state;
+        let turned = frame::rotate_state(self.frame(), to, rot, state);
+        Answer::settled(way, Evaluated::State(turned))
+    }
+
+    // The answer in the frame that it is asked in: J2000 to ECLIPJ2000 by the matrix `rot`, given row by row.
+    pub fn turned(self, wanted: Wanted, rot: [[f64; 3]; 3]) -> Answer
+        ensures { λ r. ⌜ r ≡ turnedAnswer wanted rot self ⌝ }
+    {
+        match wanted {
+            Wanted::AsItStands => self,
+            Wanted::In(to) => self.turned_to(to, rot),
+        }
+    }
+}
+
+// All six numbers negated.
+fn negated(e: Evaluated) -> Evaluated
+    ensures { λ r. ⌜ r ≡ negatedOf e ⌝ }
+{
+    match e {
+        Evaluated::Refused(r) => Evaluated::Refused(r),
+        Evaluated::State(s) => Evaluated::State(s.negated()),
+    }
+}
+
+// A state less another that may be refused.
+fn less(a: State, e: Evaluated) -> Evaluated
+    ensures { λ r. ⌜ r ≡ lessOf a e ⌝ }
+{
+    match e {
+        Evaluated::Refused(r) => Evaluated::Refused(r),
+        Evaluated::State(b) => Evaluated::State(a.minus(b)),
+    }
+}
+
+// Segment i answers in its own direction.
+fn evaluated_at(kernel: &[u8], i: usize, s: Segment, et: f64) -> Answer
+    requires { ⌜ i < tableLimit ⌝ }
+    ensures { λ r. ⌜ r ≡ settled (Way.Forward i) (evaluated Spk (now (kernel .entry)) s i et) ⌝ }
+{
+    Answer::settled(
+        Way::Forward(i),
+        segment::evaluate(kernel, Family::Spk, s, i as u32, et),
+    )
+}
+
+// Segment i, which was chosen forward, answers; and it is remembered if it is marked, whatever evaluating it comes to.
+fn forward(kernel: &[u8], memory: Memory, i: usize, s: Segment, et: f64) -> Asked
+    requires { ⌜ i < tableLimit ⌝ }
+    ensures { λ r. ⌜ r ≡ record { answer = settled (Way.Forward i) (evaluated Spk (now (kernel .entry)) s i et); memory = rememberedAt memory i s } ⌝ }
+{
+    let answer = evaluated_at(kernel, i, s, et);
+    let kept = memory.after(i, s);
+    Asked {
+        answer: answer,
+        memory: kept,
+    }
+}
+
+// Segment i, which was chosen reversed, answers.
+fn reversed(kernel: &[u8], i: usize, s: Segment, et: f64) -> Answer
+    requires { ⌜ i < tableLimit ⌝ }
+    ensures { λ r. ⌜ r ≡ settled (Way.Reversed i) (negatedOf (evaluated Spk (now (kernel .entry)) s i et)) ⌝ }
+{
+    let e = segment::evaluate(kernel, Family::Spk, s, i as u32, et);
+    Answer::settled(Way::Reversed(i), negated(e))
+}
+
+// The chain: target's state to body 0, then center's, subtracted.
+fn state_via_ssb_chain(kernel: &[u8], table: Table, q: Question) -> Evaluated
+    requires { ⌜ table .count ≤ tableLimit ⌝ }
+    ensures { λ r. ⌜ r ≡ chained (now (kernel .entry)) (table .segments) (table .count) q ⌝ }
+{
+    let target = chain::state_wrt_ssb(kernel, table, q.leg());
+    match target {
+        Evaluated::Refused(r) => Evaluated::Refused(r),
+        Evaluated::State(a) => {
+            let back = q.swapped();
+            less(a, chain::state_wrt_ssb(kernel, table, back.leg()))
+        }
+    }
+}
+
+// The answer by a chain.
+fn chained(kernel: &[u8], table: Table, q: Question) -> Answer
+    requires { ⌜ table .count ≤ tableLimit ⌝ }
+    ensures { λ r. ⌜ r ≡ settled Way.Chained (chained (now (kernel .entry)) (table .segments) (table .count) q) ⌝ }
+{
+    Answer::settled(Way::Chained, state_via_ssb_chain(kernel, table, q))
+}
+
+// An answer that leaves the memory.
+fn unchanged(answer: Answer, memory: Memory) -> Asked
+    ensures { λ r. ⌜ r ≡ record { answer = answer; memory = memory } ⌝ }
+{
+    Asked {
+        answer: answer,
+        memory: memory,
+    }
+}
+
+// What was kept, else segment i where it is of the pair and covers the epoch.
+fn or_hit(kept: Choice, q: Question, s: Segment, i: usize) -> Choice
+    ensures { λ r. ⌜ r ≡ orElse kept (hitAt q s i) ⌝ }
+{
+    match kept {
+        Choice::At(k) => Choice::At(k),
+        Choice::Nothing => {
+            if q.hits(s) {
+                Choice::At(i)
+            } else {
+                Choice::Nothing
+            }
+        }
+    }
+}
+
+// A question with a memory. One function takes the table: it looks at the remembered segment, and scans for the pair and the swapped
+// pair at once, the last in file order first; the chosen segment goes on by value.
+pub fn state(kernel: &[u8], table: Table, memory: Memory, q: Question) -> Asked
+    ensures { λ r. ⌜ r ≡ asked tableLimit (now (kernel .entry)) (table .segments) (table .count) memory q ⌝ }
+{
+    if q.is_same() {
+        return unchanged(Answer::same(), memory);
+    }
+    let n = table.count;
+    if Table::PLACES < n {
+        return unchanged(Answer::refused(Refusal::TableUnfit), memory);
+    }
+    if q.et != q.et {
+        return unchanged(Answer::refused(Refusal::EpochNan), memory);
+    }
+    let place = memory.place();
+    if place < n {
+        let s = table.segments[place];
+        if q.serves(s) {
+            return forward(kernel, memory, place, s, q.et);
+        }
+    }
+    let back = q.swapped();
+    let mut kept = Choice::Nothing;
+    let mut i = n;
+    while 0 < i {
+        let k = i - 1;
+        let s = table.segments[k];
+        if q.hits(s) {
+            return forward(kernel, memory, k, s, q.et);
+        }
+        kept = or_hit(kept, back, s, k);
+        i = k;
+    }
+    match kept {
+        Choice::At(k) => {
+            let s = table.segments[k];
+            unchanged(reversed(kernel, k, s, q.et), memory)
+        }
+        Choice::Nothing => unchanged(chained(kernel, table, q), memory),
+    }
+}
+
+// A question in a frame.
+pub fn state_in(
+    kernel: &[u8],
+    table: Table,
+    memory: Memory,
+    q: Question,
+    wanted: Wanted,
+    rot: [[f64; 3]; 3],
+) -> Asked
+    ensures { λ r. ⌜ r ≡ askedIn tableLimit (now (kernel .entry)) (table .segments) (table .count) memory q wanted rot ⌝ }
+{
+    let asked = state(kernel, table, memory, q);
+    let answer = asked.answer;
+    let kept = asked.memory;
+    unchanged(answer.turned(wanted, rot), kept)
+}
+
+// A segment evaluated alone by its number, covering or not.
+pub fn alone(kernel: &[u8], table: Table, number: usize, et: f64) -> Answer
+    ensures { λ r. ⌜ r ≡ aloneAnswer tableLimit (now (kernel .entry)) (table .segments) (table .count) number et ⌝ }
+{
+    let n = table.count;
+    if Table::PLACES < n {
+        return Answer::refused(Refusal::TableUnfit);
+    }
+    if et != et {
+        return Answer::refused(Refusal::EpochNan);
+    }
+    if n <= number {
+        return Answer::refused(Refusal::NoSegment);
+    }
+    let s = table.segments[number];
+    evaluated_at(kernel, number, s, et)
+}

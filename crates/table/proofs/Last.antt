@@ -1,0 +1,57 @@
+-- Laws of `lastIn`: one for each way through a loop that goes down, what a choice tells of its number, and when one segment alone
+-- passes the test. Assumes nothing.
+use mathlib.Core.Path.{_≡_, refl, sym, ap, _∙_, subst}
+use mathlib.Core.Logic.{⊎-elim}
+use mathlib.Core.Bool.{Bool, true, false, cond}
+use mathlib.Core.List.{List}
+use Prim.Native.Nat.{ℕ, zero, suc, _≤_, _<_}
+use native.Mathlib.Nat.{not-suc-le-zero, le-of-suc-le-suc, eq-or-lt-of-le}
+use native.Mathlib.Omega.{arith}
+use Rattle.segment.specs.declared.Segment.{Segment}
+use Rattle.table.specs.declared.Choice.{Choice}
+use Rattle.table.specs.declared.Choice.the-variants.{At, Nothing}
+use Rattle.table.specs.Segments.{seg}
+use Rattle.table.specs.Choosing.{lastIn, orElse}
+
+-- ---- a choice's number is below a bound
+abbrev pub Below : ℕ → Choice → Type 0
+Below n (At i) = i < n
+Below n Nothing = Unit {0}
+
+pub below-at : (n : ℕ) (c : Choice) (i : ℕ) → c ≡ At i → Below n c → i < n
+below-at n c i e b = subst (Below n) e b
+
+pub below-cond : (n : ℕ) (b : Bool) (x y : Choice) → Below n x → Below n y → Below n (cond b x y)
+below-cond n true x y p q = p
+below-cond n false x y p q = q
+
+pub below-else : (n : ℕ) (x y : Choice) → Below n x → Below n y → Below n (orElse x y)
+below-else n (At i) y p q = p
+below-else n Nothing y p q = q
+
+module _ (test : Segment → Bool) (segs : List Segment) where
+  -- nothing is left
+  pub last-none : (i : ℕ) → i ≡ 0 → lastIn test segs i ≡ Nothing
+  unfolding lastIn
+  last-none i e = ap (lastIn test segs) e
+
+  -- the last that is left passes the test or not
+  pub last-turn : (i k : ℕ) (b : Bool) → i ≡ suc k → test (seg segs k) ≡ b → lastIn test segs i ≡ cond b (At k) (lastIn test segs k)
+  unfolding lastIn
+  last-turn i k b e h = ap (lastIn test segs) e ∙ ap (λ (t : Bool). cond t (At k) (lastIn test segs k)) h
+
+  -- its number is below the count
+  pub last-below : (n k : ℕ) → k ≤ n → Below n (lastIn test segs k)
+  unfolding lastIn
+  last-below n zero h = tt
+  last-below n (suc k) h = below-cond n (test (seg segs k)) (At k) (lastIn test segs k) (omega arith) (last-below n k (omega arith))
+
+  -- a segment that alone passes is the last that does
+  pub last-alone : (i n : ℕ) → i < n → test (seg segs i) ≡ true
+      → ((j : ℕ) → j < n → (j ≡ i → ⊥) → test (seg segs j) ≡ false) → lastIn test segs n ≡ At i
+  last-alone i zero h y f = absurd (not-suc-le-zero h)
+  last-alone i (suc n) h y f =
+      ⊎-elim
+      (λ (e : i ≡ n). last-turn (suc n) n true refl (ap (λ (k : ℕ). test (seg segs k)) (sym e) ∙ y) ∙ ap At (sym e))
+      (λ l. last-turn (suc n) n false refl (f n (omega arith) (omega arith)) ∙ last-alone i n l y (λ j b. f j (omega arith)))
+      (eq-or-lt-of-le (le-of-suc-le-suc h))
