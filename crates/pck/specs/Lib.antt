@@ -1,0 +1,2 @@
+-- The definitions that the contracts of `pck` cite.
+pub mod Orienting
