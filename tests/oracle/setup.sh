@@ -30,7 +30,10 @@ if ! (cd "$SPICEKIT" && sha256sum --check --quiet "$here/given.sha256"); then
 fi
 mkdir -p target
 ln -sfn "$(cd "$SPICEKIT" && pwd)" target/given
-cat target/given/spk.rs src/reach.rs > target/spk_reach.rs
+for m in spk frame; do
+  cat "target/given/$m.rs" "src/reach_$m.rs" | cmp -s - "target/${m}_and_reach.rs" ||
+    cat "target/given/$m.rs" "src/reach_$m.rs" > "target/${m}_and_reach.rs"
+done
 
 "$CARGO" build --offline --release --quiet
 "$CARGO" build --offline --release --quiet --target x86_64-unknown-linux-gnu

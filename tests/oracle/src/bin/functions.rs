@@ -9,6 +9,12 @@
 //!   pick_window   n et window  n epochs                -> start count, or `error`
 //!   type2 | type3 n et  MID RADIUS and the series of one record of n coefficients -> six numbers, or `error`
 //!   type9 | type13 n et degree  6n doubles of states, n epochs -> six numbers, or `error`
+//! and without a count in front, matrices row by row:
+//!   rotate        nine of a 3 by 3 matrix, six of a state -> six (rotate_state_inertial)
+//!   product | sum nine, nine                              -> nine (matmul3, add3)
+//!   sxform        nine of R, nine of dR                   -> 36 (sxform_from_rotation)
+//!   invert        36                                      -> 36 (invert_sxform)
+//!   apply         36, six of a state                      -> six (apply_sxform)
 //!
 //! `functions bench NAME ITERATIONS` calls one function so often, for counting instructions.
 
@@ -17,7 +23,9 @@
 
 use oracle::daf::DafFile;
 use oracle::kernel::{build, chebyshev, discrete, with_file, Part};
-use oracle::spk_reach::{reach, SpkFile};
+use oracle::spk::{reach, SpkFile};
+use oracle::words::hex;
+use oracle::frame;
 use std::hint::black_box;
 use std::io::BufRead;
 
@@ -35,12 +43,12 @@ impl Words<'_> {
     fn doubles(&mut self, n: usize) -> Vec<f64> {
         (0..n).map(|_| self.double()).collect()
     }
-}
-
-/// Doubles as bits, single spaces between.
-fn hex(numbers: &[f64]) -> String {
-    let words: Vec<String> = numbers.iter().map(|d| format!("{:016x}", d.to_bits())).collect();
-    words.join(" ")
+    fn row<const N: usize>(&mut self) -> [f64; N] {
+        [(); N].map(|()| self.double())
+    }
+    fn rows<const N: usize>(&mut self) -> [[f64; N]; N] {
+        [(); N].map(|()| self.row())
+    }
 }
 
 /// A kernel of one segment that covers all epochs.
@@ -61,6 +69,9 @@ fn epochs_file(epochs: &[f64]) -> DafFile {
 
 fn answer(name: &str, line: &str) -> String {
     let mut w = Words(line.split_whitespace());
+    if let Some(out) = answer_frame(name, &mut w) {
+        return out;
+    }
     let n = w.whole();
     let x = w.double();
     match name {
@@ -105,6 +116,19 @@ fn answer(name: &str, line: &str) -> String {
         }
         _ => panic!("unknown function {name}"),
     }
+}
+
+/// The functions of frame.rs.
+fn answer_frame(name: &str, w: &mut Words) -> Option<String> {
+    Some(match name {
+        "rotate" => hex(&frame::rotate_state_inertial(&w.rows::<3>(), &w.row())),
+        "product" => hex(&frame::reach::product(&w.rows(), &w.rows()).concat()),
+        "sum" => hex(&frame::reach::sum(&w.rows(), &w.rows()).concat()),
+        "sxform" => hex(&frame::sxform_from_rotation(&w.rows(), &w.rows()).concat()),
+        "invert" => hex(&frame::invert_sxform(&w.rows()).concat()),
+        "apply" => hex(&frame::apply_sxform(&w.rows(), &w.row())),
+        _ => return None,
+    })
 }
 
 /// Some doubles of ordinary size, the same in every run.
