@@ -19,3 +19,4 @@ pub mod spk_writer;
 
 pub mod kernel;
 pub mod words;
+pub mod written;

@@ -7,6 +7,7 @@
 //!   oracle listing KERNEL                 our listing's lines
 //!   oracle names KERNEL                   `opened COUNT`, then number and name, the name's bytes in hexadecimal
 //!   oracle matrix FILE                    writes j2000_to_eclipj2000 as 72 bytes and prints it
+//!   oracle write SEED FILE                writes a kernel with the given spk_writer
 //!
 //! A question that isn't answered: `error KIND`, or `panic`. An opening that fails: `opening error
 //! KIND`, `opening panic`, or `opening endless` where the time or memory allowed ran out; the same word
@@ -20,7 +21,7 @@ use oracle::spk::{reach, SpkError, SpkFile};
 use oracle::words::{hex, matrix, questions, Question};
 use std::panic::{catch_unwind, AssertUnwindSafe};
 
-const SECONDS: u64 = 10;
+const SECONDS: u64 = 3;
 const MEMORY: u64 = 1 << 29;
 
 fn daf_kind(e: &DafError) -> String {
@@ -194,6 +195,11 @@ fn write_matrix(path: &str) {
     println!("{}", hex(&nine));
 }
 
+fn write_kernel(seed: &str, path: &str) {
+    let bytes = oracle::written::kernel(seed.parse().expect("a number"));
+    std::fs::write(path, bytes).expect("a file that can be written");
+}
+
 /// Bounds on time and memory of this process; a walk without end runs into one of them.
 fn bound() {
     let limit = |n: u64| libc::rlimit { rlim_cur: n, rlim_max: n };
@@ -217,8 +223,9 @@ fn work(args: &[&str]) {
         ["listing", kernel] => listing(kernel),
         ["names", kernel] => names(kernel),
         ["matrix", path] => write_matrix(path),
+        ["write", seed, path] => write_kernel(seed, path),
         _ => {
-            eprintln!("usage: oracle ask|alone|orient KERNEL QUESTIONS, ask with [MATRIX], listing|names KERNEL, matrix FILE");
+            eprintln!("usage: oracle ask|alone|orient KERNEL QUESTIONS, ask with [MATRIX], listing|names KERNEL, matrix FILE, write SEED FILE");
             std::process::exit(2);
         }
     }

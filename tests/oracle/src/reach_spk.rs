@@ -83,7 +83,7 @@ pub mod reach {
     /// The first segment on a body's way to body 0 whose evaluation is an error.
     fn blamed_on_chain(file: &SpkFile, body: i32, et: f64) -> Option<usize> {
         let mut current = body;
-        for _ in 0..32 {
+        for _ in 0..if body == 0 { 0 } else { 32 } {
             let mut next = None;
             for (i, seg) in file.segments.iter().enumerate() {
                 if seg.target != current || et < seg.start_et || et > seg.end_et {
