@@ -1,12 +1,12 @@
 #!/usr/bin/env python3
-"""compare.py FOLDER [--ask PROGRAM] [--orient PROGRAM] [--listing PROGRAM] [--run WORDS] [--oracle PROGRAM]
+"""compare.py FOLDER [--ask PROGRAM] [--orient PROGRAM] [--listing PROGRAM] [--alone PROGRAM] [--run WORDS] [--oracle PROGRAM]
 
 Holds our programs against the given Rust on the cases that gen.py wrote to FOLDER. WORDS start a program
 for x86-64 (`qemu-x86_64`, where the machine is another); PROGRAM may be several words. Without a program its part is only tried on the
 Rust's side, and the counts say so. What our programs have to print comes from the tag and the Rust's lines:
 
 - opening tagged refused: that refusal line alone, whatever the Rust does; its doing is counted.
-- NaN epoch: 10. The Rust's error of coverage, type, RADIUS: 11, 12, 13 with the detail it names.
+- NaN epoch: 10. A segment asked by its number that doesn't exist: 17. The Rust's error of coverage, type, RADIUS: 11, 12, 13 with the detail it names.
 - six numbers of which one is not finite: 15. Six finite numbers: the Rust's own line, to the bit.
 - anything else of the Rust on an accepted kernel (a panic, another error) is a failure of the comparison.
   Where a degree would wrap in it, it is asked about the twin that gen.py wrote.
@@ -42,13 +42,14 @@ class Case:
         twin = self.path("twin")
         return twin if os.path.exists(twin) else self.path("kernel")
 
-    def questions(self):
-        """(same body, epoch) of each question."""
+    def questions(self, count):
+        """(same body, segment that doesn't exist, epoch) of each question to a kernel of so many segments."""
         with open(self.path("questions"), "rb") as f:
             data = f.read()
-        if self.program == "orient":
-            return [(False, et) for _, _, _, et in struct.iter_unpack("<BBid", data)]
-        return [(target == center, et) for _, _, target, center, et in struct.iter_unpack("<BBiid", data)]
+        if self.program == "ask":
+            return [(target == center, False, et) for _, _, target, center, et in struct.iter_unpack("<BBiid", data)]
+        alone = self.program == "alone"
+        return [(False, alone and number >= count, et) for _, _, number, et in struct.iter_unpack("<BBId", data)]
 
 
 def run(words, stdin=None):
@@ -68,6 +69,7 @@ def finite(words):
     return all(map(math.isfinite, numbers))
 
 
+WAYS = ("same", "forward", "reversed", "chained")
 REFUSED = {"coverage": 11, "type": 12, "radius": 13}
 
 
@@ -77,9 +79,11 @@ def refusal(index, number, detail=0):
 
 def expected(index, question, rust):
     """Our line for a question from the Rust's line, or None where the Rust says nothing that counts."""
-    same, et = question
+    same, missing, et = question
     if math.isnan(et) and not same:
         return refusal(index, 10)
+    if missing:
+        return refusal(index, 17)
     words = rust.split(" ")
     if words[0] != str(index):
         return None
@@ -102,14 +106,14 @@ class Comparison:
         if self.failures <= 20:
             print(f"case {case.number} ({case.family}): {text}")
 
-    def count(self, line, turned=False, wraps=False):
+    def count(self, line, program="", turned=False, wraps=False):
         """An expected line into the counts."""
         if "refused " in line:
             self.counts[f"refusal {line.split('refused ')[1].split(' ')[0]}"] += 1
         else:
             self.counts["answers"] += 1
             way = line.split(" ")[1]
-            self.counts[f"answers {way if way.isalpha() else 'of orientation'}"] += 1
+            self.counts[f"answers {way if way in WAYS else program}"] += 1
             self.counts["answers turned"] += turned
             self.counts["answers with the degree that wraps"] += wraps
 
@@ -140,17 +144,17 @@ class Comparison:
     def wanted(self, case):
         """Our lines for an accepted kernel."""
         rust = self.asked_rust(case)
-        questions = case.questions()
         if not rust[0].startswith("opened "):
             self.fail(case, f"accepted, but the Rust: {rust[0]}")
+            return []
         lines = []
-        for i, question in enumerate(questions):
+        for i, question in enumerate(case.questions(int(rust[0].split(" ")[1]))):
             said = rust[i + 1] if i + 1 < len(rust) else ""
             line = expected(i, question, said)
             if line is None:
                 self.fail(case, f"question {i}, the Rust: {said or rust[-1]}")
             else:
-                self.count(line, bool(case.matrix()), bool(case.departs))
+                self.count(line, case.program, bool(case.matrix()), bool(case.departs))
             lines.append(line)
         return lines
 
@@ -168,7 +172,7 @@ class Comparison:
         return [case.expect]
 
     def listing(self, case):
-        if case.program != "ask":
+        if case.program == "orient":
             return
         want = [case.expect]
         if case.expect == "accepted":
@@ -204,7 +208,7 @@ class Comparison:
 def main():
     parser = argparse.ArgumentParser(description=__doc__, formatter_class=argparse.RawDescriptionHelpFormatter)
     parser.add_argument("folder")
-    for program in ("ask", "orient", "listing"):
+    for program in ("ask", "orient", "listing", "alone"):
         parser.add_argument(f"--{program}")
     parser.add_argument("--run", default="")
     parser.add_argument("--oracle", default=os.path.join(HERE, "target/release/oracle"))

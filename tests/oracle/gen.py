@@ -16,7 +16,7 @@ import sys
 import damaged
 from kernels import INF, NAN, Chance, Kernel, Segment, ask_record, double, orient_record
 from opening import opening, unwrapped
-from valid import (BODIES, UNSUPPORTED, chain, layout_of, mixed, orientations, overlaps, pck_mixed, planets,
+from valid import (BODIES, UNSUPPORTED, alone, chain, layout_of, mixed, orientations, overlaps, pck_mixed, planets,
                    questions, segment, states)
 
 HANDLED = [2, 3, 9, 13]
@@ -44,12 +44,12 @@ class Cases:
             self.file("twin", twin)
         self.lines.append("\t".join((str(len(self.lines)), family, program, expect, departs)))
 
-    def spk(self, family, kernel, asked, aimed=None, **more):
+    def spk(self, family, kernel, asked, aimed=None, program="ask", **more):
         """A case whose tag comes from the bytes and must be the one aimed at."""
         expect = opening(kernel, "spk")
         check(family, aimed, expect, kernel)
         twin = unwrapped(kernel) if expect == "accepted" else None
-        self.add(family, "ask", kernel, asked, expect, "degree wraps" if twin else "", twin=twin, **more)
+        self.add(family, program, kernel, asked, expect, "degree wraps" if twin else "", twin=twin, **more)
 
     def pck(self, family, kernel, asked, aimed=None):
         expect = opening(kernel, "pck")
@@ -106,8 +106,15 @@ def accepted_spk(cases, chance, scale):
         k = overlaps(chance)
         cases.spk("overlapping", k.bytes, questions(chance, k.segments, 200, BODIES))
     for _ in range(20 * scale):
-        k = mixed(chance, chance.between(0, 30) or 1, HANDLED, BODIES[:6], 3500, layout_of(chance))
+        count = chance.between(1, 30)
+        k = mixed(chance, count, HANDLED, BODIES[:6], 3500, layout_of(chance, count))
         cases.spk("layout", k.bytes, questions(chance, k.segments, 80, BODIES))
+
+
+def by_number(cases, chance, scale):
+    for _ in range(30 * scale):
+        k = mixed(chance, chance.between(1, 12), HANDLED * 3 + [chance.pick(UNSUPPORTED)], BODIES[:6])
+        cases.spk("alone", k.bytes, alone(chance, k.segments, 160), program="alone")
 
 
 def chains(cases, chance, scale):
@@ -151,7 +158,8 @@ def accepted_pck(cases, chance, scale):
         k = pck_mixed(chance, chance.between(1, 12), [2])
         cases.pck("pck", k.bytes, orientations(chance, k.segments, 240))
     for _ in range(12 * scale):
-        k = pck_mixed(chance, chance.between(1, 30), [2], 3500, layout_of(chance))
+        count = chance.between(1, 30)
+        k = pck_mixed(chance, count, [2], 3500, layout_of(chance, count))
         cases.pck("pck layout", k.bytes, orientations(chance, k.segments, 80))
 
 
@@ -217,7 +225,7 @@ def main():
     cases = Cases(folder)
     families = [lambda c: accepted_spk(cases, c, scale), lambda c: chains(cases, c, scale), lambda c: large(cases, c), lambda c: wrapped(cases, c)]
     families += [lambda c: accepted_pck(cases, c, scale), lambda c: refusals(cases, c, scale), lambda c: programs(cases, c)]
-    families.append(lambda c: written(cases, c, scale))
+    families += [lambda c: written(cases, c, scale), lambda c: by_number(cases, c, scale)]
     for i, family in enumerate(families):
         family(Chance(seed * 1000 + i))
     cases.close()

@@ -179,3 +179,9 @@ def ask_record(target, center, et):
 def orient_record(body_frame, et):
     epoch = et if isinstance(et, bytes) else double(et)
     return b"\xa5\x5c" + struct.pack("<i", body_frame) + epoch
+
+
+def alone_record(segment, et):
+    """A question about one segment by its number; no program of ours takes it, the second program does."""
+    epoch = et if isinstance(et, bytes) else double(et)
+    return b"\xa5\x5d" + struct.pack("<I", segment) + epoch

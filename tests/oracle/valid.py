@@ -2,7 +2,7 @@
 
 import math
 
-from kernels import INF, NAN, TINY, Layout, Kernel, Segment, after, ask_record, before, from_bits, orient_record
+from kernels import INF, NAN, TINY, Layout, Kernel, Segment, after, alone_record, ask_record, before, from_bits, orient_record
 
 BODIES = [0, 3, 10, 301, 399, 5, -31, 2000001, 2**31 - 1, -(2**31)]
 UNSUPPORTED = [0, 1, 5, 8, 10, 12, 14, 17, 18, 19, 20, 21, -1, -2, 2**31 - 1, -(2**31)]
@@ -270,10 +270,20 @@ def orientations(chance, segments, count):
     return out
 
 
-def layout_of(chance):
-    """A kernel's parts in other places than usual."""
+def alone(chance, segments, count):
+    """Questions about segments by their number, some of which don't exist."""
+    out = b""
+    for _ in range(count):
+        i = chance.below(len(segments))
+        number = i if chance.below(25) else chance.pick([len(segments), len(segments) + 1, 255, 256, 2**31, 2**32 - 1])
+        out += alone_record(number, epoch(chance, segments[i]))
+    return out
+
+
+def layout_of(chance, count):
+    """The parts of a kernel of so many segments in other places than usual."""
     return Layout(
-        held=chance.between(1, 25),
+        held=chance.between(1 + count // 5, 25),
         comments=chance.pick([0, 0, 1, 3]),
         hollow=chance.one_in(3),
         backward=chance.one_in(2),

@@ -3,7 +3,8 @@
 //!   oracle ask KERNEL QUESTIONS [MATRIX]  `opened COUNT`, then for each question its number and
 //!                                         `same`, `forward S`, `reversed S` or `chained` with six numbers
 //!   oracle orient KERNEL QUESTIONS        `opened COUNT`, then number, reference frame, six numbers
-//!   oracle alone KERNEL QUESTIONS         as ask; the target is a segment's number, evaluated covering or not
+//!   oracle alone KERNEL QUESTIONS         `opened COUNT`, then number, six numbers: a segment evaluated by its
+//!                                         number, covering or not (records A5 5D, number, epoch)
 //!   oracle listing KERNEL                 our listing's lines
 //!   oracle names KERNEL                   `opened COUNT`, then number and name, the name's bytes in hexadecimal
 //!   oracle matrix FILE                    writes j2000_to_eclipj2000 as 72 bytes and prints it
@@ -134,13 +135,13 @@ fn ask(kernel: &str, asked: &str, turn: Option<&str>) {
 }
 
 fn alone(kernel: &str, asked: &str) {
-    let list = questions(&read(asked), 0x5b).expect("whole questions with their mark");
+    let list = questions(&read(asked), 0x5d).expect("whole questions with their mark");
     if let Some(file) = open_spk(kernel) {
         println!("opened {}", file.segments().len());
         for (i, q) in list.iter().enumerate() {
             let s = q.target as usize;
             let one = || match reach::evaluate(&file, s, q.et) {
-                Ok(six) => Ok(format!("forward {s} {}", hex(&six))),
+                Ok(six) => Ok(hex(&six)),
                 Err(e) => Err(spk_kind(&e, || Some(s))),
             };
             println!("{i} {}", caught(one));

@@ -6,7 +6,7 @@ pub fn hex(numbers: &[f64]) -> String {
     words.join(" ")
 }
 
-/// A question: target and center (an orientation: the body frame twice) and the epoch.
+/// A question: target and center (one number alone stands for both) and the epoch.
 pub struct Question {
     pub target: i32,
     pub center: i32,
