@@ -45,6 +45,11 @@ pub mod reach {
         (kept != MRU_EMPTY).then(|| kept)
     }
 
+    /// The memory emptied, as after an opening.
+    pub fn forget(file: &SpkFile) {
+        file.last_segment.store(MRU_EMPTY, Ordering::Relaxed);
+    }
+
     /// The way of a question, which the given functions don't tell.
     pub enum Way {
         Same,
