@@ -10,4 +10,5 @@ python3 gen.py target/cases "${SEED:-1}" "${SCALE:-3}"
 run=""
 [ "$(uname -m)" = x86_64 ] || run=qemu-x86_64
 bin=$here/../../target/bin
+python3 departures.py --run "$run" --ask "$bin/ask" --orient "$bin/orient"
 python3 compare.py target/cases --run "$run" --ask "$bin/ask" --orient "$bin/orient" --listing "$bin/listing"

@@ -242,9 +242,11 @@ fn main() {
     let child = std::process::Command::new(own).arg("bounded").args(&words).output().expect("a child process");
     let lines = String::from_utf8_lossy(&child.stdout);
     print!("{lines}");
-    eprint!("{}", String::from_utf8_lossy(&child.stderr));
     match child.status.code() {
-        Some(code) => std::process::exit(code),
+        Some(code) => {
+            eprint!("{}", String::from_utf8_lossy(&child.stderr));
+            std::process::exit(code)
+        }
         None if lines.is_empty() => println!("opening endless"),
         None => println!("endless"),
     }
