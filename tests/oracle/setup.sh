@@ -9,7 +9,7 @@ CARGO=${CARGO:-/usr/bin/cargo}
 RUSTC=${RUSTC:-/usr/bin/rustc}
 export RUSTC RUSTC_BOOTSTRAP=1 # Debian's compiler is older than the text: two features are named in lib.rs
 
-packages="rustc cargo librust-memmap2-dev librust-thiserror-dev librust-rustc-hash-dev librust-bytemuck-dev qemu-user"
+packages="python3 gcc rustc cargo librust-memmap2-dev librust-thiserror-dev librust-rustc-hash-dev librust-bytemuck-dev qemu-user"
 if [ "$(dpkg --print-architecture)" != amd64 ]; then
   packages="$packages libstd-rust-dev:amd64 gcc-x86-64-linux-gnu libc6-dev-amd64-cross"
 fi
