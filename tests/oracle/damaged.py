@@ -10,10 +10,9 @@ NUMBERS = (399, 3, 1)
 
 def sample(chance, kind, count=3):
     """An accepted kernel of some segments of handled types."""
-    while True:
-        if kind == "pck":
-            return pck_mixed(chance, count, [2], 900)
-        return mixed(chance, count, [2, 3, 9, 13], room=900)
+    if kind == "pck":
+        return pck_mixed(chance, count, [2], 900)
+    return mixed(chance, count, [2, 3, 9, 13], room=900)
 
 
 def word(n):

@@ -14,7 +14,7 @@ import subprocess
 import sys
 
 import damaged
-from kernels import INF, NAN, Chance, Kernel, Segment, ask_record, double, orient_record
+from kernels import INF, NAN, Chance, Kernel, ask_record, double, orient_record
 from opening import opening, unwrapped
 from valid import (BODIES, UNSUPPORTED, alone, chain, layout_of, mixed, orientations, overlaps, pck_mixed, planets,
                    questions, segment, states)

@@ -2,7 +2,7 @@
 
 import math
 
-from kernels import INF, NAN, TINY, Layout, Kernel, Segment, after, alone_record, ask_record, before, from_bits, orient_record
+from kernels import INF, NAN, TINY, Layout, Kernel, Segment, after, alone_record, ask_record, before, orient_record
 
 BODIES = [0, 3, 10, 301, 399, 5, -31, 2000001, 2**31 - 1, -(2**31)]
 UNSUPPORTED = [0, 1, 5, 8, 10, 12, 14, 17, 18, 19, 20, 21, -1, -2, 2**31 - 1, -(2**31)]
