@@ -1,13 +1,13 @@
--- `interp::hermite::next_column` meets its contract. The loop's invariant: the first i places of `next` hold the quotients. Assumes nothing.
+-- `hermite::next_column` meets its contract. The loop's invariant: the first i places of `next` hold the quotients. Assumes nothing.
 use Prim.Native.Nat.{_+_, _≤_, _-_}
 use mathlib.Core.Path.{_≡_, refl}
 use lib.ListN.{length, length-set}
 use Rattle.bits.specs.F64.{at}
 use Rattle.bits.proofs.Fill.{Filled, fill-none, fill-more}
-use Rattle.interp.specs.Hermite.{quotient}
+use Rattle.hermite.specs.Hermite.{quotient}
 use native.Mathlib.Omega.{arith}
-use Rattle.interp.proofs.hermite.next_column.Statement.{statement}
-use Rattle.interp.proofs.hermite.next_column.Tie as tie
+use Rattle.hermite.proofs.next_column.Statement.{statement}
+use Rattle.hermite.proofs.next_column.Tie as tie
 
 abbrev Inv-loop : tie.InvT-loop
 Inv-loop cur next₀ z m k i₀ next i = (length next ≡ 64) × (i + k ≤ m) × Filled (quotient (at cur) (at z) k) i next

@@ -1,4 +1,4 @@
--- `interp::hermite::axis_at` meets its contract. The loop's invariant: k is odd, the Newton form has order k, and `cur` holds the column of order k. Assumes nothing.
+-- `hermite::axis_at` meets its contract. The loop's invariant: k is odd, the Newton form has order k, and `cur` holds the column of order k. Assumes nothing.
 use Prim.Native.Nat.{_+_, _%_, _<_, _-_}
 use mathlib.Core.Path.{_≡_, refl, sym, ap, _∙_}
 use native.Mathlib.Nat.{add-zero}
@@ -6,11 +6,11 @@ use denote.Ref.{now}
 use lib.ListN.{length}
 use Rattle.bits.specs.F64.{at}
 use Rattle.bits.specs.Bytes.{doubleAt, every}
-use Rattle.interp.proofs.Table.{After, at-start, after-turn, after-second, at-end}
+use Rattle.hermite.proofs.Table.{After, at-start, after-turn, after-second, at-end}
 use native.Mathlib.Omega.{arith}
 use borrow.Author.Needs.{needs}
-use Rattle.interp.proofs.hermite.axis_at.Statement.{statement}
-use Rattle.interp.proofs.hermite.axis_at.Tie as tie
+use Rattle.hermite.proofs.axis_at.Statement.{statement}
+use Rattle.hermite.proofs.axis_at.Tie as tie
 
 abbrev Inv-loop : tie.InvT-loop
 Inv-loop kernel q z c x m cur₀ next₀ s₀ k₀ cur next s k = (length cur ≡ 64) × (length next ≡ 64) × (k % 2 ≡ 1) × (k < m) × After (at z) (every 48 kernel q) (every 48 kernel (q + 24)) x m k s cur
@@ -87,7 +87,11 @@ with-term-requires-3 : tie.Need-with-term-requires-3 Inv-loop μ-loop
 with-term-requires-3 c κs = search needs
 
 add-k : tie.Need-add-k Inv-loop μ-loop
-add-k c = omega (arith, c .before .before .before .before .before .before .before .before .before .before .loop-test .taken, c .before .before .before .before .before .before .before .before .before .before .before .before .before .before .before .before .before .pre .1)
+add-k c =
+    let once = c .before .before .before .before .before in
+    let in-loop = once .before .before .before .before .before in
+    let start = in-loop .before .before .before .before .before .before .before in
+    omega (arith, in-loop .loop-test .taken, start .pre .1)
 
 loop-less : tie.Need-loop-less Inv-loop μ-loop
 loop-less c = omega arith
@@ -101,8 +105,9 @@ loop-again c =
     let k = in-loop .before .loop .k in
     let inv = in-loop .before .loop .inv in
     let odd = inv .2 in
-    let far = in-loop .loop-test .taken in
-    (column′ .0, column .0, omega arith, omega arith, after-second k {col = once .before .before .next-column .last .1 .0} far (after-turn k (omega arith) (omega arith) (inv .4) (column .1) (once .with-term2 .ensures)) (column′ .1) (c .with-term3 .ensures))
+    let more = in-loop .loop-test .taken in
+    let half = after-turn k {col′ = once .before .before .next-column .last .1 .0} (omega arith) (omega arith) (inv .4) (column .1) (once .with-term2 .ensures) in
+    (column′ .0, column .0, omega arith, omega arith, after-second k (omega arith) half (column′ .1) (c .with-term3 .ensures))
 
 returns : tie.Need-returns Inv-loop μ-loop
 returns c =

@@ -1,13 +1,13 @@
--- `interp::hermite::first_at` meets its contract, by the parity of the place. Assumes nothing.
+-- `hermite::first_at` meets its contract, by the parity of the place. Assumes nothing.
 use Prim.Native.Nat.{_+_}
 use denote.Ref.{now}
 use mathlib.Core.Path.{_∙_}
 use Rattle.bits.specs.F64.{at}
 use Rattle.bits.specs.Bytes.{every}
-use Rattle.interp.proofs.Table.{first-even, first-odd}
+use Rattle.hermite.proofs.Table.{first-even, first-odd}
 use borrow.Author.Needs.{needs}
-use Rattle.interp.proofs.hermite.first_at.Statement.{statement}
-use Rattle.interp.proofs.hermite.first_at.Tie as tie
+use Rattle.hermite.proofs.first_at.Statement.{statement}
+use Rattle.hermite.proofs.first_at.Tie as tie
 
 add-double-at : tie.Need-add-double-at
 add-double-at c = search needs

@@ -1,13 +1,11 @@
--- `interp::hermite::hermite_at` meets its contract: the array agrees with the kernel on the doubled nodes, and the definition reads no further. Assumes nothing.
+-- `hermite::hermite_at` meets its contract: the array agrees with the kernel on the doubled nodes, and the definition reads no further. Assumes nothing.
 use Prim.Native.Nat.{_+_}
-use mathlib.Core.Path.{_∙_}
 use denote.Ref.{now}
-use Rattle.bits.specs.F64.{at}
-use Rattle.interp.specs.Discrete.{hermiteAt}
-use Rattle.interp.proofs.Same.{axis-from-kernel}
+use Rattle.hermite.specs.Axes.{hermiteAt}
+use Rattle.hermite.proofs.Same.{axis-from-kernel}
 use borrow.Author.Needs.{needs}
-use Rattle.interp.proofs.hermite.hermite_at.Statement.{statement}
-use Rattle.interp.proofs.hermite.hermite_at.Tie as tie
+use Rattle.hermite.proofs.hermite_at.Statement.{statement}
+use Rattle.hermite.proofs.hermite_at.Tie as tie
 
 nodes-at-requires : tie.Need-nodes-at-requires
 nodes-at-requires c κs = search needs
@@ -35,9 +33,10 @@ returns c =
     let nodes = first .before .before in
     let start = nodes .before .before in
     let args = start .args in
-    let s = now (args .kernel) in
-    let same = axis-from-kernel s (args .e) (args .c) (args .x) (at (nodes .nodes-at .result)) (record { same = nodes .nodes-at .ensures }) (start .pre .0) in
-    rw (c .axis-at3 .ensures ∙ same (args .q + 16), second .axis-at2 .ensures ∙ same (args .q + 8), first .axis-at .ensures ∙ same (args .q))
+    let axis =
+    axis-from-kernel (now (args .kernel)) (args .e) (args .c) (args .x) (nodes .nodes-at .result) (record { same = nodes .nodes-at .ensures })
+    (start .pre .0) in
+    rw (axis (args .q + 16) _ (c .axis-at3 .ensures), axis (args .q + 8) _ (second .axis-at2 .ensures), axis (args .q) _ (first .axis-at .ensures))
 
 pub hermite-at-spec : {M : Type 1} → statement M
 hermite-at-spec =

@@ -7,8 +7,8 @@ ghost use Prim.Native.Nat.{ℕ, _+_, _*_, _/_, _≤_, _<_};
 ghost use lib.ListN.{length};
 ghost use Rattle.bits.specs.F64.{at};
 ghost use Rattle.bits.specs.Bytes.{every};
-ghost use Rattle.interp.specs.Hermite.{doubled, quotient, advanced};
-ghost use Rattle.interp.specs.Discrete.{hermiteAt, axisColumn, axisTable};
+ghost use Rattle.hermite.specs.Hermite.{doubled, quotient, advanced};
+ghost use Rattle.hermite.specs.Axes.{hermiteAt, axisColumn, axisTable};
 
 // A value and a derivative.
 pub struct Point {

@@ -1,14 +1,14 @@
--- `interp::hermite::first_column` meets its contract. The loop's invariant: the array has 64 places, and the first i hold the column. Assumes nothing.
+-- `hermite::first_column` meets its contract. The loop's invariant: the array has 64 places, and the first i hold the column. Assumes nothing.
 use Prim.Native.Nat.{_+_, _≤_, _-_}
 use mathlib.Core.Path.{_≡_, refl}
 use lib.ListN.{length, length-set}
 use Rattle.bits.specs.F64.{at}
 use Rattle.bits.specs.Bytes.{every}
 use Rattle.bits.proofs.Fill.{Filled, fill-none, fill-more}
-use Rattle.interp.specs.Hermite.{difference}
+use Rattle.hermite.specs.Hermite.{difference}
 use native.Mathlib.Omega.{arith}
-use Rattle.interp.proofs.hermite.first_column.Statement.{statement}
-use Rattle.interp.proofs.hermite.first_column.Tie as tie
+use Rattle.hermite.proofs.first_column.Statement.{statement}
+use Rattle.hermite.proofs.first_column.Tie as tie
 
 abbrev Inv-loop : tie.InvT-loop
 Inv-loop kernel q z c m col₀ i₀ col i = (length col ≡ 64) × (i ≤ m) × Filled (difference (at z) (every 48 kernel q) (every 48 kernel (q + 24)) 1) i col

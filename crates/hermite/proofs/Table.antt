@@ -10,8 +10,8 @@ use lib.ListN.{length, set, length-set}
 use borrow.Author.Tests.{eq-eqb, ne-eqb}
 use Rattle.bits.specs.F64.{_⊖_, at, +0, one}
 use Rattle.bits.proofs.Fill.{Filled, fill-more}
-use Rattle.interp.specs.declared.hermite.Newton.{Newton}
-use Rattle.interp.specs.Hermite.{doubled, quotient, difference, product, product′, valueTo, slopeTo, newtonAt, advanced, tableOf}
+use Rattle.hermite.specs.declared.Newton.{Newton}
+use Rattle.hermite.specs.Hermite.{doubled, quotient, difference, product, product′, valueTo, slopeTo, newtonAt, advanced, tableOf}
 
 module _ (z g h : ℕ → Float) where
   -- the first column, by the parity of the place
@@ -64,7 +64,7 @@ after-turn {z} {g} {h} {x} {m} (suc j) {st} {st′} {col} {col′} p l a ec es =
   where
     go : ((i : ℕ) → i + suc (suc j) < m → at col′ i ≡ quotient (at col) z (suc (suc j)) i) → After z g h x m (suc (suc j)) st′ col′
     go ec =
-        let column = column-next (a .column) ec in
+        let column : Column z g h m (suc (suc j)) col′ = column-next (a .column) ec in
         record { form = newton-next (λ j. difference z g h j 0) z x (suc j) (a .form) (column .holds 0 (omega arith)) es; column = column }
 
 -- the same from order k + 1, as the second half of a turn has it

@@ -1,15 +1,15 @@
--- `interp::hermite::nodes_at` meets its contract. The loop's invariant: the array has 64 places, and the first 2i hold the doubled epochs. Assumes nothing.
+-- `hermite::nodes_at` meets its contract. The loop's invariant: the array has 64 places, and the first 2i hold the doubled epochs. Assumes nothing.
 use Prim.Native.Nat.{_*_, _≤_, _-_}
 use mathlib.Core.Path.{_≡_, refl}
 use denote.Ref.{now}
 use lib.ListN.{length, length-set}
 use Rattle.bits.specs.Bytes.{every}
 use Rattle.bits.proofs.Fill.{Filled, fill-none}
-use Rattle.interp.specs.Hermite.{doubled}
-use Rattle.interp.proofs.Table.{fill-twice}
+use Rattle.hermite.specs.Hermite.{doubled}
+use Rattle.hermite.proofs.Table.{fill-twice}
 use native.Mathlib.Omega.{arith}
-use Rattle.interp.proofs.hermite.nodes_at.Statement.{statement}
-use Rattle.interp.proofs.hermite.nodes_at.Tie as tie
+use Rattle.hermite.proofs.nodes_at.Statement.{statement}
+use Rattle.hermite.proofs.nodes_at.Tie as tie
 
 abbrev Inv-loop : tie.InvT-loop
 Inv-loop kernel e c z₀ i₀ z i = (length z ≡ 64) × (i ≤ c) × Filled (doubled (every 8 kernel e)) (2 * i) z

@@ -4,8 +4,8 @@ use mathlib.Core.Bool.{cond}
 use lib.Dec.{eqb}
 use lib.Ieee.{Float}
 use Rattle.bits.specs.F64.{_⊕_, _⊖_, _⊗_, _⊘_, +0, one}
-use Rattle.interp.specs.declared.hermite.Newton.{Newton}
-use Rattle.interp.specs.declared.hermite.Point.{Point}
+use Rattle.hermite.specs.declared.Newton.{Newton}
+use Rattle.hermite.specs.declared.Point.{Point}
 
 -- Each number twice in a row.
 abbrev pub doubled : (ℕ → Float) → ℕ → Float
