@@ -3,3 +3,4 @@ pub mod Settling
 pub mod Scan
 pub mod Order
 pub mod Single
+pub mod NoMemory

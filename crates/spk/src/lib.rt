@@ -279,7 +279,7 @@ fn reversed(kernel: &[u8], i: usize, s: Segment, et: f64) -> Answer
 // The chain: target's state to body 0, then center's, subtracted.
 fn state_via_ssb_chain(kernel: &[u8], table: Table, q: Question) -> Evaluated
     requires { ⌜ table .count ≤ tableLimit ⌝ }
-    ensures { λ r. ⌜ r ≡ chained (now (kernel .entry)) (table .segments) (table .count) q ⌝ }
+    ensures { λ r. ⌜ r ≡ chained (evaluated Spk (now (kernel .entry))) (table .segments) (table .count) q ⌝ }
 {
     let target = chain::state_wrt_ssb(kernel, table, q.leg());
     match target {
@@ -294,7 +294,7 @@ fn state_via_ssb_chain(kernel: &[u8], table: Table, q: Question) -> Evaluated
 // The answer by a chain.
 fn chained(kernel: &[u8], table: Table, q: Question) -> Answer
     requires { ⌜ table .count ≤ tableLimit ⌝ }
-    ensures { λ r. ⌜ r ≡ settled Way.Chained (chained (now (kernel .entry)) (table .segments) (table .count) q) ⌝ }
+    ensures { λ r. ⌜ r ≡ settled Way.Chained (chained (evaluated Spk (now (kernel .entry))) (table .segments) (table .count) q) ⌝ }
 {
     Answer::settled(Way::Chained, state_via_ssb_chain(kernel, table, q))
 }
@@ -328,7 +328,7 @@ fn or_hit(kept: Choice, q: Question, s: Segment, i: usize) -> Choice
 // A question with a memory. One function takes the table: it looks at the remembered segment, and scans for the pair and the swapped
 // pair at once, the last in file order first; the chosen segment goes on by value.
 pub fn state(kernel: &[u8], table: Table, memory: Memory, q: Question) -> Asked
-    ensures { λ r. ⌜ r ≡ asked tableLimit (now (kernel .entry)) (table .segments) (table .count) memory q ⌝ }
+    ensures { λ r. ⌜ r ≡ asked tableLimit (evaluated Spk (now (kernel .entry))) (table .segments) (table .count) memory q ⌝ }
 {
     if q.is_same() {
         return unchanged(Answer::same(), memory);
@@ -377,7 +377,7 @@ pub fn state_in(
     wanted: Wanted,
     rot: [[f64; 3]; 3],
 ) -> Asked
-    ensures { λ r. ⌜ r ≡ askedIn tableLimit (now (kernel .entry)) (table .segments) (table .count) memory q wanted rot ⌝ }
+    ensures { λ r. ⌜ r ≡ askedIn tableLimit (evaluated Spk (now (kernel .entry))) (table .segments) (table .count) memory q wanted rot ⌝ }
 {
     let asked = state(kernel, table, memory, q);
     let answer = asked.answer;
@@ -387,7 +387,7 @@ pub fn state_in(
 
 // A segment evaluated alone by its number, covering or not.
 pub fn alone(kernel: &[u8], table: Table, number: usize, et: f64) -> Answer
-    ensures { λ r. ⌜ r ≡ aloneAnswer tableLimit (now (kernel .entry)) (table .segments) (table .count) number et ⌝ }
+    ensures { λ r. ⌜ r ≡ aloneAnswer tableLimit (evaluated Spk (now (kernel .entry))) (table .segments) (table .count) number et ⌝ }
 {
     let n = table.count;
     if Table::PLACES < n {

@@ -4,7 +4,7 @@ use Rattle.spk.specs.declared.Answer.{Answer}
 use Rattle.spk.specs.Questions.{isSame}
 use Rattle.spk.specs.Choosing.{lastReversed, forwardIn}
 use Rattle.spk.specs.Scanning.{hitAt}
-use Rattle.spk.specs.Asking.{backward}
+use Rattle.spk.specs.Asking.{backward, answerTo}
 -- `spk::state` meets its contract. What is left to scan for the pair and for the swapped pair is what there is; a reversed choice that
 -- was kept comes first. Assumes nothing.
 use mathlib.Core.Path.{_≡_, refl, sym, ap, _∙_, subst}
@@ -13,6 +13,8 @@ use mathlib.Core.Bool.{Bool, true, false}
 use Prim.Native.Nat.{ℕ, _≤_, _-_}
 use native.Mathlib.Omega.{arith}
 use borrow.Author.Needs.{needs}
+use Rattle.daf.specs.declared.Family.the-variants.{Spk}
+use Rattle.segment.specs.Evaluating.{evaluated}
 use Rattle.table.specs.declared.Choice.{Choice}
 use Rattle.table.specs.declared.Choice.the-variants.{At, Nothing}
 use Rattle.table.specs.Segments.{seg}
@@ -213,7 +215,7 @@ returns-6 c =
     let e = ended (c .before .before .before .before .before .before) in
     c .unchanged4 .ensures
     ∙ ap (λ (x : Answer). record { answer = x; memory = a .memory }) (c .before .reversed .ensures)
-    ∙ ap (λ (x : Choice). record { answer = backward (a .kernel .now) (a .t2 .segments) (a .t2 .count) (a .q) x; memory = a .memory }) (sym (e .1 ∙ c .before .before .before .before .kept .given .1))
+    ∙ ap (λ (x : Choice). record { answer = answerTo (backward (evaluated Spk (a .kernel .now)) (a .t2 .segments) (a .t2 .count) (a .q) x); memory = a .memory }) (sym (e .1 ∙ c .before .before .before .before .kept .given .1))
     ∙ asked-by _ _ (a .t2 .segments) (a .t2 .count) (a .memory) (a .q) Nothing (e .0) (o .other) (o .fits) (o .number)
 
 returns-7 : tie.Need-returns-7 Inv-loop μ-loop
@@ -223,7 +225,7 @@ returns-7 c =
     let e = ended (c .before .before .before .before) in
     c .unchanged5 .ensures
     ∙ ap (λ (x : Answer). record { answer = x; memory = a .memory }) (c .before .chained .ensures)
-    ∙ ap (λ (x : Choice). record { answer = backward (a .kernel .now) (a .t2 .segments) (a .t2 .count) (a .q) x; memory = a .memory }) (sym (e .1 ∙ c .before .before .enum-told .given .1))
+    ∙ ap (λ (x : Choice). record { answer = answerTo (backward (evaluated Spk (a .kernel .now)) (a .t2 .segments) (a .t2 .count) (a .q) x); memory = a .memory }) (sym (e .1 ∙ c .before .before .enum-told .given .1))
     ∙ asked-by _ _ (a .t2 .segments) (a .t2 .count) (a .memory) (a .q) Nothing (e .0) (o .other) (o .fits) (o .number)
 
 pub state-spec : {M : Type 1} → statement M
