@@ -3,3 +3,4 @@ pub mod Steps
 pub mod Walks
 pub mod Ends
 pub mod Own
+pub mod Cases
