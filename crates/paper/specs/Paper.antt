@@ -112,5 +112,5 @@ said =
     ∷ []
 
 pub paper : given ≡ said
-unfolding ofInt toBits ofBits toUnsigned add sub mul div le32 le64 recordOf turnedState agree nextOf countOf walkFrom walk anyOver25 total opening kept ascii nameOf T T′ seriesAt slopeAt valueOf rateOf record2 recordFor windowSize windowStart nodeFrom nodeOf factors weightOf lagrangeOf difference product product′ valueTo slopeTo tableOf hermiteOf
+unfolding ofInt toBits ofBits toUnsigned add sub mul div le32 le64 recordOf agree nextOf countOf walkFrom walk anyOver25 total opening kept ascii nameOf T T′ seriesAt slopeAt valueOf rateOf record2 recordFor windowSize windowStart nodeFrom nodeOf factors weightOf lagrangeOf difference product product′ valueTo slopeTo tableOf hermiteOf
 paper = refl
