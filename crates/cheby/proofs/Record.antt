@@ -12,7 +12,7 @@ use Rattle.bits.proofs.Whole.{record-lt}
 use Rattle.frame.specs.declared.State.{State}
 use Rattle.cheby.specs.declared.Triple.{Triple}
 use Rattle.cheby.specs.declared.Cheby.the-variants.{Value, NoRadius}
-use Rattle.cheby.specs.Cheby.{seriesAt, slopeAt, coefficient, argument, valueOf, rateOf, refusedAt, record2, record3, recordFor, type2Of, type3Of}
+use Rattle.cheby.specs.Cheby.{seriesAt, slopeAt, coefficient, argument, valueOf, rateOf, unlessZero, record2, record3, recordFor, type2Of, type3Of}
 use Rattle.cheby.specs.Steps.{values, slopes, scaled}
 
 -- a state of a position and a velocity
@@ -84,7 +84,7 @@ unfolding recordFor
 record-below init intlen et n h = record-lt ((et ⊖ init) ⊘ intlen) n h
 
 -- a test passed where it gives NoRadius
-refused-test : (b : Bool) (a : State) → refusedAt b a ≡ NoRadius → b ≡ true
+refused-test : (b : Bool) (a : State) → unlessZero b a ≡ NoRadius → b ≡ true
 refused-test true a e = refl
 refused-test false a e = let z : _≡_ {A = ℕ} 0 1 = cc in absurd (omega arith)
 

@@ -5,7 +5,7 @@ use Prim.Native.Nat.{ℕ, suc, zero}
 use mathlib.Core.Path.{_≡_, refl}
 use mathlib.Core.List.{List, [], _∷_, map}
 use lib.IntN.{pos, negsuc}
-use lib.Ieee.{Float, binary64, ofInt, toBits, ofBits, toUnsigned, add, sub, mul, div}
+use lib.Ieee.{Float, binary64, ofInt, toBits, ofBits, toUnsigned, add, sub, mul, div, eq}
 use lib.ListN.{replicate}
 use Rattle.bits.specs.F64.{at}
 use Rattle.bits.specs.Bytes.{le32, le64}
@@ -112,5 +112,5 @@ said =
     ∷ []
 
 pub paper : given ≡ said
-unfolding ofInt toBits ofBits toUnsigned add sub mul div le32 le64 recordOf agree nextOf countOf walkFrom walk anyOver25 total opening kept ascii nameOf T T′ seriesAt slopeAt valueOf rateOf record2 recordFor windowSize windowStart nodeFrom nodeOf factors weightOf lagrangeOf difference product product′ valueTo slopeTo tableOf hermiteOf
+unfolding ofInt toBits ofBits toUnsigned add sub mul div le32 le64 recordOf agree nextOf countOf walkFrom walk anyOver25 total opening kept ascii nameOf T T′ seriesAt slopeAt valueOf rateOf record2 recordFor windowSize windowStart nodeFrom nodeOf factors weightOf lagrangeOf difference product product′ valueTo slopeTo tableOf hermiteOf eq
 paper = refl
