@@ -57,40 +57,54 @@ module _ (f : Family) (k : List ℕ) (s : Segment) where
 doubles-within : (k : List ℕ) (e : ℕ) → e ≤ wholeDoubles k → 8 * e ≤ length k
 doubles-within k e h = let g = mul-div-le (length k) 8 in omega arith
 
-records-left : (series : ℕ) (k : List ℕ) (a e : ℕ) (t : Trailer) → 1 ≤ a → a ≤ e → e ≤ wholeDoubles k → badRecords series t (lengthOf a e) ≡ false → Records series k a t
-records-left series k a e t p q r h =
-    let h1 = or-first (badSize series (t .size) || badInterval (t .init) (t .intlen)) (overruns (t .size) (t .count) (lengthOf a e)) h in
-    let h2 = or-second (badSize series (t .size) || badInterval (t .init) (t .intlen)) (overruns (t .size) (t .count) (lengthOf a e)) h in
-    let none = eqb-false (t .count) 0 (or-first (eqb (t .count) 0) (ltb (lengthOf a e) (t .count * t .size + 4)) h2) in
-    let over : t .count * t .size + 4 ≤ lengthOf a e = ltb-false (lengthOf a e) (t .count * t .size + 4) (or-second (eqb (t .count) 0) (ltb (lengthOf a e) (t .count * t .size + 4)) h2) in
-    let within : 8 * e ≤ length k = doubles-within k e r in
-    record {
-      from = p;
-      some = some (t .count) none;
-      size = record-size series (t .size) (or-first (badSize series (t .size)) (badInterval (t .init) (t .intlen)) h1);
-      within = omega arith;
-    }
+-- of records: there is one, and the trailer follows behind the last
+pub records-fit : (series : ℕ) (t : Trailer) (len : ℕ) → badRecords series t len ≡ false → (1 ≤ t .count) × (t .count * t .size + 4 ≤ len)
+records-fit series t len h =
+    let over = or-second (badSize series (t .size) || badInterval (t .init) (t .intlen)) (overruns (t .size) (t .count) len) h in (
+      some (t .count) (eqb-false (t .count) 0 (or-first (eqb (t .count) 0) (ltb len (t .count * t .size + 4)) over)),
+      ltb-false len (t .count * t .size + 4) (or-second (eqb (t .count) 0) (ltb len (t .count * t .size + 4)) over),
+    )
   where
     some : (n : ℕ) → (n ≡ 0 → ⊥) → 1 ≤ n
     some n h = omega arith
 
-states-left : (least : ℕ) (k : List ℕ) (a e : ℕ) (t : Trailer) → 1 ≤ a → a ≤ e → e ≤ wholeDoubles k → badStates least t (lengthOf a e) ≡ false → States k a (t .size) (t .count)
-states-left least k a e t p q r h =
-    let h1 = or-first (badLength (t .count) (lengthOf a e) || ltb (t .size) least) (ltb 32 (windowSize (t .size) (t .count))) h in
-    let h2 = or-first (badLength (t .count) (lengthOf a e)) (ltb (t .size) least) h1 in
-    let sum = 7 * t .count + t .count / 100 + 2 in
-    let none = eqb-false (t .count) 0 (or-first (eqb (t .count) 0) (not (eqb (lengthOf a e) sum)) h2) in
-    let long : lengthOf a e ≡ sum = eqb-true (lengthOf a e) sum (not-false (eqb (lengthOf a e) sum) (or-second (eqb (t .count) 0) (not (eqb (lengthOf a e) sum)) h2)) in
-    let within : 8 * e ≤ length k = doubles-within k e r in
-    record {
-      from = p;
-      some = some (t .count) none;
-      window = ltb-false 32 (windowSize (t .size) (t .count)) (or-second (badLength (t .count) (lengthOf a e) || ltb (t .size) least) (ltb 32 (windowSize (t .size) (t .count))) h);
-      within = omega arith;
-    }
+-- of states: there is one, and the length is that of N
+pub states-fit : (least : ℕ) (t : Trailer) (len : ℕ) → badStates least t len ≡ false → (1 ≤ t .count) × (len ≡ 7 * t .count + t .count / 100 + 2)
+states-fit least t len h =
+    let bad = or-first (badLength (t .count) len) (ltb (t .size) least) (or-first (badLength (t .count) len || ltb (t .size) least) (ltb 32 (windowSize (t .size) (t .count))) h) in
+    let sum = 7 * t .count + t .count / 100 + 2 in (
+      some (t .count) (eqb-false (t .count) 0 (or-first (eqb (t .count) 0) (not (eqb len sum)) bad)),
+      eqb-true len sum (not-false (eqb len sum) (or-second (eqb (t .count) 0) (not (eqb len sum)) bad)),
+    )
   where
     some : (n : ℕ) → (n ≡ 0 → ⊥) → 1 ≤ n
     some n h = omega arith
+
+records-left : (series : ℕ) (k : List ℕ) (a e : ℕ) (t : Trailer) → 1 ≤ a → a ≤ e → e ≤ wholeDoubles k → badRecords series t (lengthOf a e) ≡ false → Records series k a t
+records-left series k a e t p q r h =
+    let fit = records-fit series t (lengthOf a e) h in
+    let over = fit .1 in
+    let within : 8 * e ≤ length k = doubles-within k e r in
+    record {
+      from = p;
+      some = fit .0;
+      size =
+          record-size series (t .size)
+          (or-first (badSize series (t .size)) (badInterval (t .init) (t .intlen)) (or-first (badSize series (t .size) || badInterval (t .init) (t .intlen)) (overruns (t .size) (t .count) (lengthOf a e)) h));
+      within = omega arith;
+    }
+
+states-left : (least : ℕ) (k : List ℕ) (a e : ℕ) (t : Trailer) → 1 ≤ a → a ≤ e → e ≤ wholeDoubles k → badStates least t (lengthOf a e) ≡ false → States k a (t .size) (t .count)
+states-left least k a e t p q r h =
+    let fit = states-fit least t (lengthOf a e) h in
+    let long = fit .1 in
+    let within : 8 * e ≤ length k = doubles-within k e r in
+    record {
+      from = p;
+      some = fit .0;
+      window = ltb-false 32 (windowSize (t .size) (t .count)) (or-second (badLength (t .count) (lengthOf a e) || ltb (t .size) least) (ltb 32 (windowSize (t .size) (t .count))) h);
+      within = omega arith;
+    }
 
 -- the same by the form
 sound-form : (k : List ℕ) (form : Form) (a e : ℕ) (t : Trailer) → handled form ≡ true → 1 ≤ a → a ≤ e → e ≤ wholeDoubles k → badTrailer form t (lengthOf a e) ≡ false
@@ -101,28 +115,14 @@ sound-form k Three a e t y p q r h = records-left 6 k a e t p q r h
 sound-form k Nine a e t y p q r h = states-left 0 k a e t p q r h
 sound-form k Thirteen a e t y p q r h = states-left 1 k a e t p q r h
 
--- ---- what passing the tests tells
-
 -- the data of a handled form, where none of the tests failed
-data-right : (n y m b : Bool) → (n || (y && (m || b))) ≡ false → y ≡ true → (m ≡ false) × (b ≡ false)
+pub data-right : (n y m b : Bool) → (n || (y && (m || b))) ≡ false → y ≡ true → (m ≡ false) × (b ≡ false)
 data-right true y m b e h = absurd (true≢false e)
 data-right false true true b e h = absurd (true≢false e)
 data-right false true false b e h = (refl, e)
 data-right false false m b e h = absurd (true≢false (sym h))
 
 module _ (f : Family) (k : List ℕ) (s : Segment) where
-  -- its addresses, and what its trailer leaves
-  pub passed : malformedIn f k s ≡ false → handled (formOf f (s .«data_type»)) ≡ true
-      → Placed (wholeDoubles k) (s .start) (s .end) × Sound k (natAbs (s .start)) (kindIn f k s)
-  unfolding malformed kindOf
-  passed e y =
-      let d = data-right (limitNan (s .first) (s .last)) (handled (formOf f (s .«data_type»))) (misplaced (wholeDoubles k) (s .start) (s .end)) (badData k (formOf f (s .«data_type»)) (natAbs (s .start)) (natAbs (s .end))) e y in
-      let p = placed (wholeDoubles k) (s .start) (s .end) (d .0) in (
-        p,
-        sound-form k (formOf f (s .«data_type»)) (natAbs (s .start)) (natAbs (s .end)) (trailerAt k (formOf f (s .«data_type»)) (natAbs (s .end))) y (p .from) (p .order) (p .within)
-            (or-second (ltb (lengthOf (natAbs (s .start)) (natAbs (s .end))) (trailerSize (formOf f (s .«data_type»)))) _ (d .1)),
-      )
-
   -- the kind is the trailer's
   pub own-kind : unfit f k s ≡ false → kindIn f k s ≡ s .kind
   unfolding unfit
@@ -135,12 +135,30 @@ module _ (f : Family) (k : List ℕ) (s : Segment) where
       by-test (handled (formOf f (s .«data_type»))) (λ y. y)
       (λ n. absurd (true≢false (ap unsupported (not-handled (formOf f (s .«data_type»)) (trailerAt k (formOf f (s .«data_type»)) (natAbs (s .end))) n ∙ own-kind e) ∙ u)))
 
+  -- so every test was passed: the addresses are in order, and the trailer's numbers right
+  pub passed-tests : unsupported (s .kind) ≡ false → unfit f k s ≡ false
+      → (handled (formOf f (s .«data_type»)) ≡ true) × Placed (wholeDoubles k) (s .start) (s .end)
+      × (badTrailer (formOf f (s .«data_type»)) (trailerAt k (formOf f (s .«data_type»)) (natAbs (s .end))) (lengthOf (natAbs (s .start)) (natAbs (s .end))) ≡ false)
+  unfolding unfit malformed
+  passed-tests u e =
+      let y = own-form u e in
+      let d = data-right (limitNan (s .first) (s .last)) (handled (formOf f (s .«data_type»))) (misplaced (wholeDoubles k) (s .start) (s .end)) (badData k (formOf f (s .«data_type»)) (natAbs (s .start)) (natAbs (s .end)))
+      (or-first (malformedIn f k s) (not (sameKind (kindIn f k s) (s .kind))) e) y in (
+        y,
+        placed (wholeDoubles k) (s .start) (s .end) (d .0),
+        or-second (ltb (lengthOf (natAbs (s .start)) (natAbs (s .end))) (trailerSize (formOf f (s .«data_type»)))) _ (d .1),
+      )
+
   -- a segment that fits
   pub fitting : unsupported (s .kind) ≡ false → unfit f k s ≡ false → Placed (wholeDoubles k) (s .start) (s .end) × Sound k (natAbs (s .start)) (s .kind)
-  unfolding unfit
+  unfolding kindOf
   fitting u e =
-      let p = passed (or-first (malformedIn f k s) (not (sameKind (kindIn f k s) (s .kind))) e) (own-form u e) in
-      (p .0, subst (λ (x : Kind). Sound k (natAbs (s .start)) x) (own-kind e) (p .1))
+      let t = passed-tests u e in
+      let p = t .1 in (
+        p,
+        subst (λ (x : Kind). Sound k (natAbs (s .start)) x) (own-kind e)
+            (sound-form k (formOf f (s .«data_type»)) (natAbs (s .start)) (natAbs (s .end)) (trailerAt k (formOf f (s .«data_type»)) (natAbs (s .end))) (t .0) (p .from) (p .order) (p .within) (t .2)),
+      )
 
   -- ---- the evaluation
 

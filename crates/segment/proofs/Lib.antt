@@ -9,3 +9,7 @@ pub mod Judging
 pub mod Valued
 pub mod Same
 pub mod Fit
+pub mod Refusals
+pub mod Inside
+pub mod Opened
+pub mod OwnBytes
