@@ -4,3 +4,4 @@ pub mod Scan
 pub mod Order
 pub mod Single
 pub mod NoMemory
+pub mod Exactly
