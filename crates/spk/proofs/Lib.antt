@@ -5,3 +5,5 @@ pub mod Order
 pub mod Single
 pub mod NoMemory
 pub mod Exactly
+pub mod OwnBytes
+pub mod TwoAnswers
