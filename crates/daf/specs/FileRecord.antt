@@ -52,5 +52,5 @@ abbrev pub fward : List ℕ → ℕ
 fward k = le32 k 76
 
 -- What the file record comes to.
-abbrev pub fileRecord : Family → List ℕ → Head
+unfoldable pub fileRecord : Family → List ℕ → Head
 fileRecord f k = firstOf (fileCases f k) Refused (First (fward k))

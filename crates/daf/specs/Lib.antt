@@ -6,3 +6,4 @@ pub mod Opening
 pub mod Names
 pub mod Addresses
 pub mod Reading
+pub mod Examples

@@ -46,31 +46,39 @@ nameAt p = recordAt (p .rec + 1) + 40 * p .index
 
 -- Whole number j of the summary at byte s, behind its two doubles.
 abbrev pub wholeAt : List ℕ → ℕ → ℕ → ℤ
-wholeAt k s j = signed32 (le32 k (s + 16 + 4 * j))
+wholeAt k s j = signed32 (le32 k (s + (16 + 4 * j)))
 
--- The summary at a place. A PCK's body frame stands as the target and its reference frame as the frame; it has no center.
-abbrev pub summaryOf : Family → List ℕ → Place → Summary
-summaryOf Spk k p =
+-- An SPK's summary at byte s, whose name is at byte n.
+abbrev pub spkSummary : List ℕ → ℕ → ℕ → Summary
+spkSummary k s n =
     record {
-      first = doubleAt k (summaryAt p);
-      last = doubleAt k (summaryAt p + 8);
-      target = wholeAt k (summaryAt p) 0;
-      center = wholeAt k (summaryAt p) 1;
-      frame = wholeAt k (summaryAt p) 2;
-      «data_type» = wholeAt k (summaryAt p) 3;
-      start = wholeAt k (summaryAt p) 4;
-      end = wholeAt k (summaryAt p) 5;
-      «name_at» = nameAt p;
+      first = doubleAt k s;
+      last = doubleAt k (s + 8);
+      target = wholeAt k s 0;
+      center = wholeAt k s 1;
+      frame = wholeAt k s 2;
+      «data_type» = wholeAt k s 3;
+      start = wholeAt k s 4;
+      end = wholeAt k s 5;
+      «name_at» = n;
     }
-summaryOf Pck k p =
+
+-- A PCK's: its body frame stands as the target and its reference frame as the frame; it has no center.
+abbrev pub pckSummary : List ℕ → ℕ → ℕ → Summary
+pckSummary k s n =
     record {
-      first = doubleAt k (summaryAt p);
-      last = doubleAt k (summaryAt p + 8);
-      target = wholeAt k (summaryAt p) 0;
+      first = doubleAt k s;
+      last = doubleAt k (s + 8);
+      target = wholeAt k s 0;
       center = pos 0;
-      frame = wholeAt k (summaryAt p) 1;
-      «data_type» = wholeAt k (summaryAt p) 2;
-      start = wholeAt k (summaryAt p) 3;
-      end = wholeAt k (summaryAt p) 4;
-      «name_at» = nameAt p;
+      frame = wholeAt k s 1;
+      «data_type» = wholeAt k s 2;
+      start = wholeAt k s 3;
+      end = wholeAt k s 4;
+      «name_at» = n;
     }
+
+-- The summary at a place.
+abbrev pub summaryOf : Family → List ℕ → Place → Summary
+summaryOf Spk k p = spkSummary k (summaryAt p) (nameAt p)
+summaryOf Pck k p = pckSummary k (summaryAt p) (nameAt p)

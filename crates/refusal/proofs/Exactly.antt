@@ -3,7 +3,7 @@
 use Prim.Native.Nat.{ℕ, zero, suc, _<_}
 use mathlib.Core.Path.{_≡_, refl, sym, ap, _∙_, subst}
 use mathlib.Core.Bool.{Bool, true, false, cond, not, _&&_, true≢false}
-use mathlib.Core.List.{List, [], _∷_}
+use mathlib.Core.List.{List, [], _∷_, _++_}
 use native.Mathlib.Omega.{arith}
 use lib.Dec.{T, eqb, eqb-refl}
 use lib.ListN.{length}
@@ -37,7 +37,20 @@ differs n (c ∷ cs) zero w l e =
 differs n (c ∷ cs) (suc i) w l e =
     differs n cs i (and-right (not (eqb n (numberOf (c .gives)))) (without n cs) w) (omega arith) e
 
-module _ {A : Type 0} (refused : Refusal → A) (answer : A) (one : (r s : Refusal) → refused r ≡ refused s → r ≡ s) (other : (r : Refusal) → answer ≡ refused r → ⊥) where
+-- an order of tests in two parts
+pub first-append : {A : Type 0} (cs ds : List Case) (refused : Refusal → A) (answer : A)
+    → firstOf (cs ++ ds) refused answer ≡ firstOf cs refused (firstOf ds refused answer)
+first-append [] ds refused answer = refl
+first-append (c ∷ cs) ds refused answer = ap (cond (c .holds) (refused (c .gives))) (first-append cs ds refused answer)
+
+-- what is made of an outcome is made of its refusals and its answer
+pub first-through : {A B : Type 0} (cs : List Case) (refused : Refusal → A) (answer : A) (f : A → B)
+    → firstOf cs (λ r. f (refused r)) (f answer) ≡ f (firstOf cs refused answer)
+first-through [] refused answer f = refl
+first-through (c ∷ cs) refused answer f =
+    by-test (c .holds) (λ q. rw q) (λ q. rw q (first-through cs refused answer f))
+
+module _ {A : Type 0} (refused : Refusal → A) (answer : A) where
   -- one case, by its test
   turn : (c : Case) (cs : List Case) (b : Bool) → c .holds ≡ b
       → firstOf (c ∷ cs) refused answer ≡ cond b (refused (c .gives)) (firstOf cs refused answer)
@@ -49,33 +62,41 @@ module _ {A : Type 0} (refused : Refusal → A) (answer : A) (one : (r s : Refus
   given-where (c ∷ cs) zero f = turn c cs true f
   given-where (c ∷ cs) (suc i) f = turn c cs false (f .0) ∙ given-where cs i (f .1)
 
-  -- cases of other numbers do not give a refusal
-  never : (r : Refusal) (cs : List Case) → T (without (numberOf r) cs) → firstOf cs refused answer ≡ refused r → ⊥
-  never r [] w h = other r h
-  never r (d ∷ ds) w h =
-      by-test (d .holds)
-      (λ q. differs (numberOf r) (d ∷ ds) 0 w (omega arith) (ap numberOf (one (d .gives) r (sym (turn d ds true q) ∙ h))))
-      (λ q. never r ds (and-right (not (eqb (numberOf r) (numberOf (d .gives)))) (without (numberOf r) ds) w) (sym (turn d ds false q) ∙ h))
-
-  -- and only there
-  pub given-only : (cs : List Case) (i : ℕ) → T (apart cs) → i < length cs → firstOf cs refused answer ≡ refused (given cs i) → First cs i
-  given-only [] i a l e = omega arith
-  given-only (c ∷ cs) zero a l e =
-      by-test (c .holds) (λ q. q)
-      (λ q. absurd (never (c .gives) cs (and-left (without (numberOf (c .gives)) cs) (apart cs) a) (sym (turn c cs false q) ∙ e)))
-  given-only (c ∷ cs) (suc i) a l e =
-      by-test (c .holds)
-      (λ q. absurd (differs (numberOf (c .gives)) cs i (and-left (without (numberOf (c .gives)) cs) (apart cs) a) (omega arith)
-      (ap numberOf (sym (one (c .gives) (given cs i) (sym (turn c cs true q) ∙ e))))))
-      (λ q. (q, given-only cs i (and-right (without (numberOf (c .gives)) cs) (apart cs) a) (omega arith) (sym (turn c cs false q) ∙ e)))
-
   -- where no case holds there is the answer
   pub answer-where : (cs : List Case) → None cs → firstOf cs refused answer ≡ answer
   answer-where [] n = refl
   answer-where (c ∷ cs) n = turn c cs false (n .0) ∙ answer-where cs (n .1)
 
-  -- and only there
+module _ {A : Type 0} (refused : Refusal → A) (answer : A) (one : (r s : Refusal) → refused r ≡ refused s → r ≡ s) (other : (r : Refusal) → answer ≡ refused r → ⊥) where
+  -- cases of other numbers do not give a refusal
+  never : (r : Refusal) (cs : List Case) → T (without (numberOf r) cs) → firstOf cs refused answer ≡ refused r → ⊥
+  never r [] w h = other r h
+  never r (d ∷ ds) w h =
+      by-test (d .holds)
+      (λ q. differs (numberOf r) (d ∷ ds) 0 w (omega arith) (ap numberOf (one (d .gives) r (sym (turn refused answer d ds true q) ∙ h))))
+      (λ q. never r ds (and-right (not (eqb (numberOf r) (numberOf (d .gives)))) (without (numberOf r) ds) w) (sym (turn refused answer d ds false q) ∙ h))
+
+  -- its refusal is given only where case i is the first that holds
+  pub given-only : (cs : List Case) (i : ℕ) → T (apart cs) → i < length cs → firstOf cs refused answer ≡ refused (given cs i) → First cs i
+  given-only [] i a l e = omega arith
+  given-only (c ∷ cs) zero a l e =
+      by-test (c .holds) (λ q. q)
+      (λ q. absurd (never (c .gives) cs (and-left (without (numberOf (c .gives)) cs) (apart cs) a) (sym (turn refused answer c cs false q) ∙ e)))
+  given-only (c ∷ cs) (suc i) a l e =
+      by-test (c .holds)
+      (λ q. absurd (differs (numberOf (c .gives)) cs i (and-left (without (numberOf (c .gives)) cs) (apart cs) a) (omega arith)
+      (ap numberOf (sym (one (c .gives) (given cs i) (sym (turn refused answer c cs true q) ∙ e))))))
+      (λ q. (q, given-only cs i (and-right (without (numberOf (c .gives)) cs) (apart cs) a) (omega arith) (sym (turn refused answer c cs false q) ∙ e)))
+
+  -- there is the answer only where no case holds
   pub answer-only : (cs : List Case) → firstOf cs refused answer ≡ answer → None cs
   answer-only [] e = tt
   answer-only (c ∷ cs) e =
-      by-test (c .holds) (λ q. absurd (other (c .gives) (sym e ∙ turn c cs true q))) (λ q. (q, answer-only cs (sym (turn c cs false q) ∙ e)))
+      by-test (c .holds) (λ q. absurd (other (c .gives) (sym e ∙ turn refused answer c cs true q))) (λ q. (q, answer-only cs (sym (turn refused answer c cs false q) ∙ e)))
+
+  -- what is no refusal is the answer, and then no case holds
+  pub answered : (cs : List Case) (x : A) → firstOf cs refused answer ≡ x → ((r : Refusal) → x ≡ refused r → ⊥) → None cs × (answer ≡ x)
+  answered [] x e n = (tt, e)
+  answered (c ∷ cs) x e n =
+      by-test (c .holds) (λ q. absurd (n (c .gives) (sym e ∙ turn refused answer c cs true q)))
+      (λ q. let rest = answered cs x (sym (turn refused answer c cs false q) ∙ e) n in ((q, rest .0), rest .1))

@@ -1,0 +1,14 @@
+#!/usr/bin/env bash
+# count.sh PROGRAM ARGUMENTS... : x86-64 instructions of one pass through a loop. The last argument
+# of PROGRAM is its number of passes; two runs are compared, so that starting up doesn't count.
+set -eu
+here=$(cd "$(dirname "$0")" && pwd)
+plugin=$here/target/libcount.so
+if [ ! -e "$plugin" ] || [ "$here/count.c" -nt "$plugin" ]; then
+  mkdir -p "$here/target"
+  gcc -shared -fPIC -O2 -o "$plugin" "$here/count.c"
+fi
+count() { qemu-x86_64 -plugin "$plugin" "$@" 2>&1 >/dev/null | sed -n 's/^instructions //p'; }
+few=$(count "$@" 200)
+many=$(count "$@" 1200)
+awk -v a="$few" -v b="$many" 'BEGIN { printf "%.1f\n", (b - a) / 1000 }'

@@ -1,0 +1,86 @@
+#!/usr/bin/env python3
+"""scenarios.py FOLDER: the kernels and questions that both sides are measured on, and their list.
+
+Writes NAME.kernel and NAME.questions, and list.tsv: name, mode, what is measured. Sixteen questions each, in
+several records; every question is answered. Numbers are of ordinary size, the same in every run.
+"""
+
+import os
+import sys
+
+sys.path.insert(0, os.path.join(os.path.dirname(os.path.abspath(__file__)), "../tests/oracle"))
+from kernels import Chance, Kernel, Segment, ask_record, orient_record  # noqa: E402
+
+SPAN = 3200.0
+
+
+def series(chance, numbers, coefficients):
+    """A type 2 or 3 segment of four records of so many coefficients over the span."""
+    channels, out = 6 if numbers[-1] == 3 else 3, []
+    for k in range(4):
+        out += [400.0 + 800.0 * k, 400.0] + [chance.spread(1e6) for _ in range(channels * coefficients)]
+    return Segment(numbers, 0.0, SPAN, out + [0.0, 800.0, 2.0 + channels * coefficients, 4.0])
+
+
+def states(chance, numbers, degree):
+    """A type 9 or 13 segment of fifty states at unequal steps."""
+    epochs = [64.0 * i + chance.spread(10.0) for i in range(50)]
+    doubles = [chance.spread(1e6) for _ in range(300)] + epochs + [float(degree), 50.0]
+    return Segment(numbers, 0.0, SPAN, doubles)
+
+
+def many(chance, count):
+    """So many segments of nine doubles, each of a pair of its own, but for the one in the middle."""
+    out = []
+    for i in range(count):
+        head = (1000 + i, 0, 1, 2)
+        small = Segment(head, 0.0, SPAN, [1600.0, 1600.0, 1.0, 2.0, 3.0, 0.0, SPAN, 5.0, 1.0])
+        out.append(series(chance, head, 14) if i == count // 2 else small)
+    return out
+
+
+def planets(chance):
+    """Fourteen segments as of a planetary kernel: ten about 0, four about those."""
+    pairs = [(k, 0) for k in range(1, 11)] + [(301, 3), (399, 3), (199, 1), (299, 2)]
+    return [series(chance, pair + (1, 2), 14) for pair in pairs]
+
+
+def scenarios(chance):
+    """Name, mode, what it is, kernel, pair asked."""
+    one = [series(chance, (399, 3, 1, 2), 14)]
+    fourteen, full = many(chance, 14), many(chance, 256)
+    yield "remembered-1", "remember", "type 2, 14 coefficients, remembered, 1 segment", one, (399, 3)
+    yield "remembered-14", "remember", "the same of 14 segments", fourteen, (1007, 0)
+    yield "remembered-256", "remember", "the same of 256 segments", full, (1128, 0)
+    yield "fresh-1", "forget", "not remembered, 1 segment", one, (399, 3)
+    yield "fresh-14", "forget", "not remembered, 14 segments", fourteen, (1007, 0)
+    yield "fresh-256", "forget", "not remembered, 256 segments", full, (1128, 0)
+    yield "reversed-14", "remember", "reversed, 14 segments", fourteen, (0, 1007)
+    yield "chain", "remember", "chain of 2+2, 14 segments", planets(chance), (301, 199)
+    yield "type3", "remember", "type 3, 14 coefficients, remembered", [series(chance, (399, 3, 1, 3), 14)], (399, 3)
+    yield "type9-7", "remember", "type 9, degree 7, 50 states, remembered", [states(chance, (399, 3, 1, 9), 7)], (399, 3)
+    yield "type9-15", "remember", "type 9, degree 15, remembered", [states(chance, (399, 3, 1, 9), 15)], (399, 3)
+    yield "type13", "remember", "type 13, window 8, 50 states, remembered", [states(chance, (399, 3, 1, 13), 7)], (399, 3)
+    yield "pck", "orient", "PCK type 2, 14 coefficients, 1 segment", [series(chance, (3000, 1, 2), 14)], (3000,)
+    yield "open-14", "open", "opening, 14 segments", fourteen, (1007, 0)
+    yield "open-256", "open", "opening, 256 segments", full, (1128, 0)
+
+
+def main():
+    folder = sys.argv[1]
+    os.makedirs(folder, exist_ok=True)
+    lines = []
+    for name, mode, what, segments, pair in scenarios(Chance(1)):
+        kernel = Kernel("pck" if mode == "orient" else "spk", segments)
+        record = orient_record if mode == "orient" else ask_record
+        asked = b"".join(record(*pair, 50.0 + 190.0 * i) for i in range(16))
+        for suffix, data in (("kernel", kernel.bytes), ("questions", asked)):
+            with open(os.path.join(folder, f"{name}.{suffix}"), "wb") as f:
+                f.write(data)
+        lines.append(f"{name}\t{mode}\t{what}\n")
+    with open(os.path.join(folder, "list.tsv"), "w") as f:
+        f.writelines(lines)
+
+
+if __name__ == "__main__":
+    main()

@@ -1,0 +1,236 @@
+#!/usr/bin/env python3
+"""gen.py FOLDER [SEED [SCALE]]: kernels with questions, the same from the same seed.
+
+Writes N.kernel, N.questions and where there is one N.matrix, and index.tsv with a line for each case:
+number, family, program, what document 01 demands of the opening (`accepted`, `refused N D`, or the whole
+output of a program that refuses its input), and the departure of the Rust where one is known ahead:
+`degree wraps`, where the Rust is asked about N.twin with a degree that doesn't.
+A case whose opening is accepted lies in demand 2's domain: each answer of six finite numbers must have the Rust's bits.
+"""
+
+import os
+import struct
+import subprocess
+import sys
+
+import damaged
+from kernels import INF, NAN, Chance, Kernel, ask_record, double, orient_record
+from opening import opening, unwrapped
+from valid import (BODIES, UNSUPPORTED, alone, chain, layout_of, mixed, orientations, overlaps, pck_mixed, planets,
+                   questions, segment, states)
+
+HANDLED = [2, 3, 9, 13]
+LIMIT = 65536
+ORACLE = os.path.join(os.path.dirname(os.path.abspath(__file__)), "target/release/oracle")
+
+
+class Cases:
+    """The folder being filled, and its index."""
+
+    def __init__(self, folder):
+        self.folder, self.lines = folder, []
+        os.makedirs(folder, exist_ok=True)
+
+    def file(self, suffix, data):
+        with open(os.path.join(self.folder, f"{len(self.lines)}.{suffix}"), "wb") as f:
+            f.write(data)
+
+    def add(self, family, program, kernel, asked, expect, departs="", matrix=None, twin=None):
+        self.file("kernel", kernel)
+        self.file("questions", asked)
+        if matrix is not None:
+            self.file("matrix", matrix)
+        if twin is not None:
+            self.file("twin", twin)
+        self.lines.append("\t".join((str(len(self.lines)), family, program, expect, departs)))
+
+    def spk(self, family, kernel, asked, aimed=None, program="ask", **more):
+        """A case whose tag comes from the bytes and must be the one aimed at."""
+        expect = opening(kernel, "spk")
+        check(family, aimed, expect, kernel)
+        twin = unwrapped(kernel) if expect == "accepted" else None
+        self.add(family, program, kernel, asked, expect, "degree wraps" if twin else "", twin=twin, **more)
+
+    def pck(self, family, kernel, asked, aimed=None):
+        expect = opening(kernel, "pck")
+        check(family, aimed, expect, kernel)
+        self.add(family, "orient", kernel, asked, expect)
+
+    def close(self):
+        with open(os.path.join(self.folder, "index.tsv"), "w") as f:
+            f.write("\n".join(self.lines) + "\n")
+
+
+def check(family, aimed, expect, kernel):
+    if len(kernel) > LIMIT:
+        raise SystemExit(f"{family}: a kernel of {len(kernel)} bytes")
+    if aimed != "any" and expect != (aimed or "accepted"):
+        raise SystemExit(f"{family}: aimed at {aimed}, the bytes say {expect}")
+
+
+def turn(chance):
+    """A matrix to turn states with: any nine numbers, the sign of zero among them."""
+    shape = chance.below(8)
+    if shape == 0:
+        return b"".join(double(chance.pick([0.0, -0.0, 1.0, -1.0])) for _ in range(9))
+    if shape == 1:
+        return b"".join(double(chance.pick([1e308, -1e308, INF, NAN, 1.0, 0.0])) for _ in range(9))
+    return b"".join(double(chance.spread(1.0)) for _ in range(9))
+
+
+def eclip():
+    """The Rust's own matrix, as `oracle matrix` writes it."""
+    s, c = 0x3FD9752E50F4B399, 0x3FED5C0357681EF3
+    one, minus = 0x3FF0000000000000, s | 1 << 63
+    return struct.pack("<9Q", one, 0, 0, 0, c, s, 0, minus, c)
+
+
+def accepted_spk(cases, chance, scale):
+    for data_type in HANDLED:
+        for _ in range(16 * scale):
+            k = mixed(chance, chance.between(1, 4), [data_type], BODIES[:4])
+            cases.spk(f"type {data_type}", k.bytes, questions(chance, k.segments, 160, BODIES))
+    for _ in range(60 * scale):
+        k = mixed(chance, chance.between(1, 25), HANDLED * 3 + [chance.pick(UNSUPPORTED)], BODIES[: chance.between(3, 10)])
+        cases.spk("mixed", k.bytes, questions(chance, k.segments, 200, BODIES))
+    for i in range(40 * scale):
+        k = mixed(chance, chance.between(1, 12), HANDLED * 3 + [chance.pick(UNSUPPORTED)], BODIES[:6])
+        asked = questions(chance, k.segments, 160, BODIES)
+        cases.spk("turned", k.bytes, asked, matrix=eclip() if i % 2 else turn(chance))
+    for i in range(40 * scale):
+        k = planets(chance)
+        bodies = [s.numbers[0] for s in k.segments] + [0]
+        asked = questions(chance, k.segments, 250, bodies)
+        cases.spk("planets", k.bytes, asked, matrix=eclip() if i % 4 == 0 else None)
+    for _ in range(24 * scale):
+        k = overlaps(chance)
+        cases.spk("overlapping", k.bytes, questions(chance, k.segments, 200, BODIES))
+    for _ in range(20 * scale):
+        count = chance.between(1, 30)
+        k = mixed(chance, count, HANDLED, BODIES[:6], 3500, layout_of(chance, count))
+        cases.spk("layout", k.bytes, questions(chance, k.segments, 80, BODIES))
+
+
+def by_number(cases, chance, scale):
+    for _ in range(30 * scale):
+        k = mixed(chance, chance.between(1, 12), HANDLED * 3 + [chance.pick(UNSUPPORTED)], BODIES[:6])
+        cases.spk("alone", k.bytes, alone(chance, k.segments, 160), program="alone")
+
+
+def chains(cases, chance, scale):
+    for steps in [1, 2, 3, 5, 31, 32, 33, 34] * scale:
+        for shape in ("line", "start", "ring", "forked", "holed"):
+            k = chain(chance, steps, shape)
+            asked = ask_record(1000, 0, 50.0) + ask_record(0, 1000, 50.0) + ask_record(1000, 7001, 50.0)
+            cases.spk(f"chain {shape}", k.bytes, asked + questions(chance, k.segments, 100, BODIES))
+
+
+def large(cases, chance):
+    """256 segments, a thousand states, a full file of questions."""
+    for _ in range(3):
+        made = [segment(chance, (chance.pick(BODIES[:5]), chance.pick(BODIES[:5]), 1), 2, 18) for _ in range(256)]
+        k = Kernel("spk", [s if len(s.doubles) < 20 else damaged.tiny(chance, "spk", i) for i, s in enumerate(made)])
+        for s in k.segments:
+            s.edges = s.edges or [s.first, s.last]
+        cases.spk("256 segments", k.bytes, questions(chance, k.segments, 800, BODIES[:5]))
+    for data_type in (9, 13):
+        k = Kernel("spk", [states(chance, (399, 3, 1, data_type), 1000, 7.0, "plain")])
+        cases.spk(f"type {data_type}", k.bytes, questions(chance, k.segments, 400, BODIES))
+    k = mixed(chance, 10, HANDLED, BODIES[:5])
+    cases.spk("full", k.bytes, questions(chance, k.segments, 3640, BODIES[:6]))
+    cases.spk("full", k.bytes, questions(chance, k.segments, 3640, BODIES[:6]), matrix=eclip())
+    k = pck_mixed(chance, 10, [2])
+    cases.pck("full", k.bytes, orientations(chance, k.segments, 4681))
+
+
+def wrapped(cases, chance):
+    """A degree of 2^64 or more, which wraps in the Rust."""
+    for data_type in (9, 13):
+        for degree in (1.8446744073709552e19, 1e300, INF):
+            s = states(chance, (399, 3, 1, data_type), 9, degree, "plain")
+            k = Kernel("spk", [s])
+            asked = questions(chance, [s], 60, BODIES)
+            cases.spk(f"type {data_type}", k.bytes, asked)
+
+
+def accepted_pck(cases, chance, scale):
+    for _ in range(60 * scale):
+        k = pck_mixed(chance, chance.between(1, 12), [2])
+        cases.pck("pck", k.bytes, orientations(chance, k.segments, 240))
+    for _ in range(12 * scale):
+        count = chance.between(1, 30)
+        k = pck_mixed(chance, count, [2], 3500, layout_of(chance, count))
+        cases.pck("pck layout", k.bytes, orientations(chance, k.segments, 80))
+
+
+def refusals(cases, chance, scale):
+    for kind, add, record in (("spk", cases.spk, ask_record), ("pck", cases.pck, orient_record)):
+        bodies = (399, 3) if kind == "spk" else (3000,)
+        asked = b"".join(record(*bodies, et) for et in (0.0, 5.0, 1e9, NAN))
+        for family in damaged.ON_PURPOSE:
+            for kernel, aimed in family(chance, kind):
+                add(f"{kind} {family.__name__}", kernel, asked, aimed)
+        for kernel, aimed in damaged.flips(chance, kind, 150 * scale):
+            add(f"{kind} flips", kernel, flip_questions(chance, kernel, kind), aimed)
+
+
+def written(cases, chance, scale):
+    """Kernels that the given Rust wrote; with 100 states it refuses its own."""
+    path = os.path.join(cases.folder, "written")
+    for _ in range(30 * scale):
+        subprocess.run([ORACLE, "write", str(chance.bits()), path], check=True)
+        with open(path, "rb") as f:
+            kernel = f.read()
+        cases.spk("written", kernel, flip_questions(chance, kernel, "spk"), "any")
+    os.remove(path)
+
+
+def flip_questions(chance, kernel, kind):
+    """Questions about the pairs that stand where summaries usually do."""
+    out = b""
+    for i in range(min(25, (len(kernel) - 1064) // 40)):
+        first, last = struct.unpack_from("<2d", kernel, 1048 + 40 * i)
+        target, center = struct.unpack_from("<2i", kernel, 1064 + 40 * i)
+        if (first, last, target, center) == (0.0, 0.0, 0, 0):
+            break
+        inside = [first + (last - first) * chance.unit() for _ in range(4)]
+        for et in [first, last, (first + last) / 2, 0.0] + inside:
+            out += ask_record(target, center, et) if kind == "spk" else orient_record(target, et)
+    return out
+
+
+def programs(cases, chance):
+    """18 and 19: inputs that a program refuses itself."""
+    k, p = mixed(chance, 3, [2], room=600), pck_mixed(chance, 3, [2], 600)
+    for program, good, record in (("ask", k.bytes, ask_record(399, 3, 1.0)), ("orient", p.bytes, orient_record(3000, 1.0))):
+        big = good + bytes(LIMIT + 1 - len(good))
+        many = record * (LIMIT // len(record) + 1)
+        bad = bytes([good[0] ^ 1]) + good[1:]
+        cases.add("18", program, big, record, "refused 18 0")
+        cases.add("18", program, good, many, "refused 18 0")
+        cases.add("18", program, bad, many, "refused 18 0")
+        cases.add("18", program, big, record[:-1], "refused 18 0")
+        cases.add("empty", program, good, b"", "")
+        for spoilt in (record[:-1], record[:1], record + record[:5], record * 3 + b"\xa5\x5a" + record[2:], b"\xa4" + record[1:] + record, record * 2 + b"\xa5", record[2:] + record[:2]):
+            cases.add("19", program, good, spoilt, "refused 19 0")
+            cases.add("19 behind 2", program, bad, spoilt, "refused 2 0")
+        cases.add("19", program, good, orient_record(1, 1.0) if program == "ask" else ask_record(1, 2, 1.0), "refused 19 0")
+    cases.add("18", "ask", k.bytes, ask_record(399, 3, 1.0), "refused 18 0", matrix=bytes(LIMIT + 1))
+
+
+def main():
+    folder = sys.argv[1]
+    seed = int(sys.argv[2]) if len(sys.argv) > 2 else 1
+    scale = int(sys.argv[3]) if len(sys.argv) > 3 else 3
+    cases = Cases(folder)
+    families = [lambda c: accepted_spk(cases, c, scale), lambda c: chains(cases, c, scale), lambda c: large(cases, c), lambda c: wrapped(cases, c)]
+    families += [lambda c: accepted_pck(cases, c, scale), lambda c: refusals(cases, c, scale), lambda c: programs(cases, c)]
+    families += [lambda c: written(cases, c, scale), lambda c: by_number(cases, c, scale)]
+    for i, family in enumerate(families):
+        family(Chance(seed * 1000 + i))
+    cases.close()
+    print(f"{len(cases.lines)} cases in {folder}, seed {seed}, scale {scale}")
+
+
+if __name__ == "__main__":
+    main()

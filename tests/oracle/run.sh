@@ -1,0 +1,14 @@
+#!/usr/bin/env bash
+# The comparison from nothing: the given Rust built, our programs proved and built, the cases made, all held together.
+# SPICEKIT names the Rust's checkout (see setup.sh); SEED and SCALE choose the cases (defaults 1 and 3).
+set -eu
+here=$(cd "$(dirname "$0")" && pwd)
+cd "$here"
+./setup.sh
+(cd ../.. && rt check ask orient listing)
+python3 gen.py target/cases "${SEED:-1}" "${SCALE:-3}"
+run=""
+[ "$(uname -m)" = x86_64 ] || run=qemu-x86_64
+bin=$here/../../target/bin
+python3 departures.py --run "$run" --ask "$bin/ask" --orient "$bin/orient"
+python3 compare.py target/cases --run "$run" --ask "$bin/ask" --orient "$bin/orient" --listing "$bin/listing"

@@ -1,0 +1,122 @@
+#!/usr/bin/env python3
+"""stored.py FOLDER [SEED]: a sample of the Rust's answers for the gate, which has no Rust.
+
+Writes 0.cases, 1.cases, ... of at most 65,536 bytes each, and `stdout`: the lines that a program must print which
+goes through them. A file is a run of blocks: three words of four bytes (0 ask, 1 ask turned, 2 orient; the kernel's
+length; the questions' length), 72 bytes of matrix if turned, kernel, questions; all little-endian. A block's lines
+are what `ask` or `orient` prints about it. The kernels are small ones of gen.py's kinds: every type, every way,
+chains of 32 and 33 steps, one kernel for each opening refusal. Answers are the Rust's; refusals as in compare.py.
+"""
+
+import argparse
+import os
+import struct
+import sys
+import tempfile
+
+import damaged
+from compare import HERE, Case, Comparison
+from gen import Cases, eclip, turn
+from kernels import Chance, Kernel, Layout, Segment, ask_record, double, orient_record
+from valid import BODIES, mixed, orientations, pck_mixed, questions, states, wide_segment
+
+TYPES = [2, 3, 9, 13] * 3 + [5]
+LIMIT = 65536
+
+
+def system(chance):
+    """Bodies about 0 and others about them, in small segments."""
+    pairs = [(1, 0), (2, 0), (3, 0), (10, 0), (199, 1), (301, 3), (399, 3), (3, 0), (301, 399), (0, 4)]
+    made = [wide_segment(chance, t, c, chance.pick(TYPES), 70) for t, c in pairs]
+    return Kernel("spk", made, Layout(cut=True))
+
+
+def line(steps):
+    """A chain of so many steps in segments of nine doubles."""
+    made = []
+    for k in range(steps):
+        center = 1001 + k if k < steps - 1 else 0
+        doubles = [50.0, 50.0, 1.0 + k, 0.5 * k, -0.25 * k, 0.0, 100.0, 5.0, 1.0]
+        made.append(Segment((1000 + k, center, 1, 2), 0.0, 100.0, doubles))
+    return Kernel("spk", made, Layout(cut=True))
+
+
+def crowded():
+    """257 summaries of nothing, each summary record the name record of the one before: 8 in 13 records."""
+    out = bytearray(13 * 1024)
+    out[:1024] = Kernel("spk", []).bytes
+    out[76:80] = struct.pack("<I", 2)
+    for k in range(11):
+        out[1024 * (k + 1) : 1024 * (k + 1) + 8] = double(k + 3.0 if k < 10 else 0.0)
+        out[1024 * (k + 1) + 16 : 1024 * (k + 1) + 24] = double(25.0 if k < 10 else 7.0)
+    return out
+
+
+def answered(cases, chance):
+    for _ in range(6):
+        k = system(chance)
+        cases.spk("system", k.bytes, questions(chance, k.segments, 220, [1, 2, 3, 10, 199, 301, 399, 0, 4]))
+    for i in range(6):
+        k = mixed(chance, 9, TYPES, BODIES[:5], 600, Layout(cut=True))
+        cases.spk("mixed", k.bytes, questions(chance, k.segments, 180, BODIES), matrix=(None, eclip(), turn(chance))[i % 3])
+    for steps in (32, 33):
+        asked = b"".join(ask_record(1000, c, 50.0) for c in (0, 1001, 1002, 2000)) + ask_record(0, 1000, 50.0)
+        cases.spk("line", line(steps).bytes, asked)
+    for data_type in (9, 13):
+        s = states(chance, (399, 3, 1, data_type), 101, 7.0, "plain")
+        cases.spk("states", Kernel("spk", [s], Layout(cut=True)).bytes, questions(chance, [s], 60, BODIES))
+    for _ in range(4):
+        k = pck_mixed(chance, 6, [2], 500, Layout(cut=True))
+        cases.pck("pck", k.bytes, orientations(chance, k.segments, 120))
+
+
+def refused(cases, chance):
+    """The smallest kernel that each family of damage has for a refusal's number."""
+    for kind, add, asked in (("spk", cases.spk, ask_record(399, 3, 1.0)), ("pck", cases.pck, orient_record(3000, 1.0))):
+        smallest = {}
+        for family in damaged.ON_PURPOSE:
+            for kernel, aimed in family(chance, kind):
+                key = (family.__name__ if kind == "spk" else "", (aimed or "").split(" ")[1:2])
+                if aimed and key[1] != ["8"] and len(kernel) < len(smallest.get(str(key), (bytes(LIMIT), ""))[0]):
+                    smallest[str(key)] = (kernel, aimed)
+        for kernel, aimed in smallest.values():
+            add("refused", kernel, asked, aimed)
+    cases.spk("refused", crowded(), ask_record(399, 3, 1.0), "refused 8 0")
+
+
+def block(case):
+    def read(suffix):
+        with open(case.path(suffix), "rb") as f:
+            return f.read()
+
+    kernel, asked, matrix = read("kernel"), read("questions"), b"".join(map(lambda _: read("matrix"), case.matrix()))
+    kind = 2 if case.program == "orient" else 1 if matrix else 0
+    return struct.pack("<3I", kind, len(kernel), len(asked)) + matrix + kernel + asked
+
+
+def main():
+    folder, seed = sys.argv[1], int(sys.argv[2]) if len(sys.argv) > 2 else 1
+    os.makedirs(folder, exist_ok=True)
+    comparison = Comparison(argparse.Namespace(oracle=os.path.join(HERE, "target/release/oracle")))
+    files, lines = [b""], []
+    with tempfile.TemporaryDirectory() as work:
+        cases = Cases(work)
+        answered(cases, Chance(seed))
+        refused(cases, Chance(seed + 1))
+        for case in (Case(work, text) for text in cases.lines):
+            lines += comparison.wanted(case) if case.expect == "accepted" else [case.expect]
+            files = files if len(files[-1]) + len(block(case)) <= LIMIT else files + [b""]
+            files[-1] += block(case)
+    if comparison.failures:
+        raise SystemExit("the Rust's answers don't fit the tags")
+    for i, data in enumerate(files):
+        with open(os.path.join(folder, f"{i}.cases"), "wb") as f:
+            f.write(data)
+    with open(os.path.join(folder, "stdout"), "w") as f:
+        f.write("".join(text + "\n" for text in lines))
+    counts = ", ".join(f"{n} {name}" for name, n in sorted(comparison.counts.items()) if n)
+    print(f"{len(cases.lines)} blocks in {len(files)} files, {len(lines)} lines: {counts}")
+
+
+if __name__ == "__main__":
+    main()
