@@ -48,8 +48,10 @@ pub fn le_u64(s: &[u8], at: usize) -> u64
     requires { ⌜ at + 8 ≤ length (now s) ⌝ }
     ensures { λ r. ⌜ r ≡ le64 (now (s .entry)) at ⌝ }
 {
-    let lo = le_u32(s, at) as u64;
-    let hi = le_u32(s, at + 4) as u64;
+    // from a part of the slice, so that both places are constants: the compiler then makes one load of it
+    let t = &s[at..];
+    let lo = le_u32(t, 0) as u64;
+    let hi = le_u32(t, 4) as u64;
     lo + 4294967296 * hi
 }
 

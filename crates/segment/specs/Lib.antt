@@ -1,1 +1,4 @@
+-- What the contracts of `segment` cite: the kinds, the tests of refusal 9, and the evaluation of one segment.
+pub mod Kinds
+pub mod Malformed
 pub mod Evaluating

@@ -1,0 +1,76 @@
+-- From the series at their bytes to the records of the definitions.
+-- Assumes nothing.
+use Prim.Native.Nat.{ℕ, _+_, _*_}
+use mathlib.Core.Path.{_≡_, ap, ap₂}
+use mathlib.Core.Bool.{true, false}
+use mathlib.Core.List.{List}
+use native.Mathlib.Omega.{arith}
+use lib.Ieee.{Float, eq}
+use Rattle.bits.specs.F64.{_⊖_, _⊗_, _⊘_, +0, one}
+use Rattle.bits.specs.Bytes.{doubleAt, every}
+use Rattle.frame.specs.declared.State.{State}
+use Rattle.cheby.specs.declared.Triple.{Triple}
+use Rattle.cheby.specs.declared.Cheby.the-variants.{Value, NoRadius}
+use Rattle.cheby.specs.Cheby.{seriesAt, slopeAt, coefficient, argument, valueOf, rateOf, record2, record3, type2Of, type3Of}
+use Rattle.cheby.specs.Steps.{values, slopes, scaled}
+
+-- a state of a position and a velocity
+abbrev pub joined : Triple → Triple → State
+joined p v = record { x = p .x; y = p .y; z = p .z; vx = v .x; vy = v .y; vz = v .z }
+
+module _ (kernel : List ℕ) (p n : ℕ) where
+  -- series c of the record stands at byte q
+  place : (c q : ℕ) → q ≡ p + 8 * (2 + c * n) → every 8 kernel q ≡ coefficient (every 8 kernel p) n c
+  place c q e = λ i k. doubleAt kernel (at k i)
+    where
+      at : (k : ℕ) → q + 8 * k ≡ p + 8 * (2 + c * n + k)
+      at k = omega arith
+
+  module _ (et : Float) {mid radius : Float} (em : mid ≡ doubleAt kernel p) (er : radius ≡ doubleAt kernel (p + 8)) where
+    -- the argument of the polynomials
+    abbrev s : Float
+    s = (et ⊖ mid) ⊘ radius
+
+    argument-is : s ≡ argument (every 8 kernel p) et
+    argument-is = rw (em, er) (ap (λ (q : ℕ). (et ⊖ doubleAt kernel q) ⊘ doubleAt kernel (p + 8)) (omega arith))
+
+    -- the value of series c, which stands at byte q
+    value-at : (c q : ℕ) → q ≡ p + 8 * (2 + c * n) → seriesAt (every 8 kernel q) n s ≡ valueOf (every 8 kernel p) n et c
+    unfolding valueOf
+    value-at c q e = ap₂ (λ (f : ℕ → Float) (a : Float). seriesAt f n a) (place c q e) argument-is
+
+    -- its derivative by the epoch
+    rate-at : (c q : ℕ) → q ≡ p + 8 * (2 + c * n) → slopeAt (every 8 kernel q) n s ⊗ (one ⊘ radius) ≡ rateOf (every 8 kernel p) n et c
+    unfolding rateOf
+    rate-at c q e =
+        ap₂ (λ (v r : Float). v ⊗ (one ⊘ r)) (ap₂ (λ (f : ℕ → Float) (a : Float). slopeAt f n a) (place c q e) argument-is) er
+
+    -- a RADIUS of zero
+    pub type2-none : eq radius +0 ≡ true → NoRadius ≡ type2Of kernel p n et
+    unfolding record2
+    type2-none t = rw (← er, t)
+
+    -- any other
+    pub type2-some : {val der vel : Triple} → eq radius +0 ≡ false → val ≡ values kernel (p + 16) n s → der ≡ slopes kernel (p + 16) n s
+        → vel ≡ scaled der (one ⊘ radius) → Value (joined val vel) ≡ type2Of kernel p n et
+    unfolding record2
+    type2-some t ev ed ew = rw (ew, ed, ev, ← er, t) (λ i. Value (record {
+      x = value-at 0 (p + 16) (omega arith) i;
+      y = value-at 1 (p + 16 + 8 * n) (omega arith) i;
+      z = value-at 2 (p + 16 + 16 * n) (omega arith) i;
+      vx = rate-at 0 (p + 16) (omega arith) i;
+      vy = rate-at 1 (p + 16 + 8 * n) (omega arith) i;
+      vz = rate-at 2 (p + 16 + 16 * n) (omega arith) i;
+    }))
+
+    -- six values
+    pub type3-both : {val vel : Triple} → val ≡ values kernel (p + 16) n s → vel ≡ values kernel (p + 16 + 24 * n) n s → joined val vel ≡ type3Of kernel p n et
+    unfolding record3
+    type3-both ev ew = rw (ew, ev) (λ i. record {
+      x = value-at 0 (p + 16) (omega arith) i;
+      y = value-at 1 (p + 16 + 8 * n) (omega arith) i;
+      z = value-at 2 (p + 16 + 16 * n) (omega arith) i;
+      vx = value-at 3 (p + 16 + 24 * n) (omega arith) i;
+      vy = value-at 4 (p + 16 + 24 * n + 8 * n) (omega arith) i;
+      vz = value-at 5 (p + 16 + 24 * n + 16 * n) (omega arith) i;
+    })

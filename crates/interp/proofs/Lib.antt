@@ -1,0 +1,9 @@
+-- Laws that the functions' proofs and other crates cite.
+pub mod Search
+pub mod Greatest
+pub mod Blend
+pub mod Same
+pub mod Window
+pub mod Table
+pub mod Own
+pub mod Cases

@@ -1,0 +1,86 @@
+-- A segment at et behind refusals 12 and 14, one law for each way. Assumes nothing.
+use Prim.Native.Nat.{ℕ, _+_, _*_, _≤_, _<_}
+use mathlib.Core.Path.{_≡_, refl, sym, ap, _∙_}
+use mathlib.Core.Bool.{Bool, true, false}
+use mathlib.Core.List.{List}
+use native.Mathlib.Nat.{mul-le-mul-left, mul-comm, mul-suc, le-trans, le-of-eq}
+use native.Mathlib.Omega.{arith}
+use lib.Dec.{eqb}
+use lib.Ieee.{Float, eq}
+use Rattle.bits.specs.F64.{+0}
+use Rattle.bits.specs.Bytes.{doubleAt}
+use Rattle.bits.proofs.Whole.{record-lt}
+use Rattle.refusal.specs.declared.Refusal.the-variants.{ZeroRadius, EmptyWindow}
+use Rattle.frame.specs.declared.State.{State}
+use Rattle.daf.specs.Addresses.{byteOf}
+use Rattle.cheby.specs.declared.Cheby.{Cheby}
+use Rattle.cheby.specs.declared.Cheby.the-variants.{Value, NoRadius}
+use Rattle.cheby.specs.Cheby.{recordFor, refusedAt, record2, type2Of, type3Of}
+use Rattle.interp.specs.Window.{windowSize}
+use Rattle.interp.specs.Discrete.{type9Of, type13Of}
+use Rattle.segment.specs.Malformed.{coefficients}
+use Rattle.segment.specs.Evaluating.{recordByte, radiusZero, zeroRadius, emptyWindow, stateIn, stateAt, valued}
+use Rattle.segment.specs.declared.Kind.the-variants.{Type2, Type3, Type9, Type13}
+use Rattle.segment.specs.declared.Evaluated.the-variants.{State as Answer, Refused}
+
+-- ---- the record for et
+
+-- it is one of N
+pub record-below : (init intlen et : Float) (n : ℕ) → 1 ≤ n → recordFor init intlen et n < n
+unfolding recordFor
+record-below init intlen et n h = record-lt _ n h
+
+-- so it ends where N records do, or before
+pub record-ends : (size r n : ℕ) → r < n → size * r + size ≤ n * size
+record-ends size r n h = le-trans (le-of-eq (sym (mul-suc size r))) (le-trans (mul-le-mul-left size h) (le-of-eq (mul-comm size n)))
+
+-- ---- RADIUS
+
+refused-is : (b : Bool) (a : State) → refusedAt b a ≡ NoRadius → b ≡ true
+refused-is true a e = refl
+refused-is false a e = let z : _≡_ {A = ℕ} 0 1 = cc in absurd (omega arith)
+
+value-is : (b : Bool) (a s : State) → refusedAt b a ≡ Value s → b ≡ false
+value-is true a s e = let z : _≡_ {A = ℕ} 0 1 = cc in absurd (omega arith)
+value-is false a s e = refl
+
+-- a record is refused where its RADIUS is zero
+pub radius-zero : (k : List ℕ) (p n : ℕ) (et : Float) → type2Of k p n et ≡ NoRadius → radiusZero k p ≡ true
+unfolding record2
+radius-zero k p n et e = refused-is (radiusZero k p) _ e
+
+pub radius-some : (k : List ℕ) (p n : ℕ) (et : Float) (s : State) → type2Of k p n et ≡ Value s → radiusZero k p ≡ false
+unfolding record2
+radius-some k p n et s e = value-is (radiusZero k p) _ s e
+
+-- ---- the kinds
+
+module _ (k : List ℕ) (a i : ℕ) (et : Float) where
+  module _ (init intlen : Float) (rsize n p c : ℕ) (at : p ≡ recordByte a init intlen rsize n et) where
+    pub two-refused : c ≡ coefficients 3 rsize → type2Of k p c et ≡ NoRadius → Refused (ZeroRadius i) ≡ valued k a (Type2 init intlen rsize n) i et
+    unfolding valued zeroRadius emptyWindow
+    two-refused q e = rw (rw at at (radius-zero k p c et e))
+
+    pub two-answered : (s : State) → c ≡ coefficients 3 rsize → type2Of k p c et ≡ Value s → Answer s ≡ valued k a (Type2 init intlen rsize n) i et
+    unfolding valued zeroRadius emptyWindow stateAt
+    two-answered s q e = rw (rw at at (radius-some k p c et s e)) (ap Answer (sym (ap stateIn (rw (at, q) at e))))
+
+    pub three-answered : (s : State) → c ≡ coefficients 6 rsize → s ≡ type3Of k p c et → Answer s ≡ valued k a (Type3 init intlen rsize n) i et
+    unfolding valued zeroRadius emptyWindow stateAt
+    three-answered s q e = ap Answer (rw (at, q) at e)
+
+  pub nine-refused : (d n : ℕ) → eqb (windowSize d n) 0 ≡ true → Refused (EmptyWindow i) ≡ valued k a (Type9 d n) i et
+  unfolding valued zeroRadius emptyWindow
+  nine-refused d n e = rw e
+
+  pub nine-answered : (d n : ℕ) → eqb (windowSize d n) 0 ≡ false → Answer (type9Of k (byteOf a) n d et) ≡ valued k a (Type9 d n) i et
+  unfolding valued zeroRadius emptyWindow stateAt
+  nine-answered d n e = rw e
+
+  pub thirteen-refused : (d n : ℕ) → eqb (windowSize d n) 0 ≡ true → Refused (EmptyWindow i) ≡ valued k a (Type13 d n) i et
+  unfolding valued zeroRadius emptyWindow
+  thirteen-refused d n e = rw e
+
+  pub thirteen-answered : (d n : ℕ) → eqb (windowSize d n) 0 ≡ false → Answer (type13Of k (byteOf a) n d et) ≡ valued k a (Type13 d n) i et
+  unfolding valued zeroRadius emptyWindow stateAt
+  thirteen-answered d n e = rw e
