@@ -4,3 +4,6 @@ pub mod Scan
 pub mod Order
 pub mod Single
 pub mod NoMemory
+pub mod Exactly
+pub mod OwnBytes
+pub mod TwoAnswers

@@ -7,3 +7,4 @@ pub mod Asking
 pub mod Turning
 pub mod Alone
 pub mod Runs
+pub mod When
