@@ -15,7 +15,7 @@ use Rattle.frame.specs.declared.State.{State}
 use Rattle.daf.specs.Addresses.{byteOf}
 use Rattle.cheby.specs.declared.Cheby.{Cheby}
 use Rattle.cheby.specs.declared.Cheby.the-variants.{Value, NoRadius}
-use Rattle.cheby.specs.Cheby.{recordFor, refusedAt, record2, type2Of, type3Of}
+use Rattle.cheby.specs.Cheby.{recordFor, unlessZero, record2, type2Of, type3Of}
 use Rattle.interp.specs.Window.{windowSize}
 use Rattle.interp.specs.Discrete.{type9Of, type13Of}
 use Rattle.segment.specs.Malformed.{coefficients}
@@ -36,11 +36,11 @@ record-ends size r n h = le-trans (le-of-eq (sym (mul-suc size r))) (le-trans (m
 
 -- ---- RADIUS
 
-refused-is : (b : Bool) (a : State) → refusedAt b a ≡ NoRadius → b ≡ true
+refused-is : (b : Bool) (a : State) → unlessZero b a ≡ NoRadius → b ≡ true
 refused-is true a e = refl
 refused-is false a e = let z : _≡_ {A = ℕ} 0 1 = cc in absurd (omega arith)
 
-value-is : (b : Bool) (a s : State) → refusedAt b a ≡ Value s → b ≡ false
+value-is : (b : Bool) (a s : State) → unlessZero b a ≡ Value s → b ≡ false
 value-is true a s e = let z : _≡_ {A = ℕ} 0 1 = cc in absurd (omega arith)
 value-is false a s e = refl
 
