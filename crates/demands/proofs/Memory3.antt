@@ -15,7 +15,7 @@ use Rattle.table.proofs.Marks.{marks-right}
 use Rattle.opening.specs.Opening.{segmentsOf, tableOf}
 use Rattle.opening.proofs.Exact.{accepted}
 use Rattle.spk.proofs.NoMemory as memory
-use Rattle.demands.specs.Demands.{OpenedAs, Demand3, Interleaving}
+use Rattle.demands.specs.Demands.{OpenedAs, Demand3, Interleaving, TwoAnswers}
 
 -- a table of segments has room for its count
 roomy : (segs : List Segment) → length segs ≤ length (segs ++ replicate (tableLimit - length segs) emptySegment)
@@ -33,3 +33,6 @@ demand-3 k t e m asks = memory.no-memory (t .segments) (t .count) (marked-right 
 pub interleaving : Interleaving
 interleaving k t e who m m' asks asks' same =
     memory.interleaving (t .segments) (t .count) (marked-right k t e) tableLimit (evaluated Spk k) who m m' asks asks' same
+
+pub two-answers : TwoAnswers
+two-answers d a b p q = p ∙ sym q

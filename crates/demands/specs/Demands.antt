@@ -48,3 +48,11 @@ Interleaving =
 abbrev pub OpenedFits : Type 0
 OpenedFits =
     (f : Family) (k : List ℕ) (t : Table) → OpenedAs f k t → (i : ℕ) → i < t .count → (et : Float) → evaluated f k (seg (t .segments) i) i et ≡ Refused TableUnfit → ⊥
+
+-- What a contract `ensures { λ r. ⌜ r ≡ d ⌝ }` permits: every public function has one, `d` being its definition at its arguments.
+abbrev pub Permitted : {A : Type 0} → A → A → Type 0
+Permitted d r = r ≡ d
+
+-- **two-answers.** Any two answers that such a contract permits are equal.
+abbrev pub TwoAnswers : Type 1
+TwoAnswers = {A : Type 0} (d a b : A) → Permitted d a → Permitted d b → a ≡ b
