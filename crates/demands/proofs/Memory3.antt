@@ -35,4 +35,4 @@ interleaving k t e who m m' asks asks' same =
     memory.interleaving (t .segments) (t .count) (marked-right k t e) tableLimit (evaluated Spk k) who m m' asks asks' same
 
 pub two-answers : TwoAnswers
-two-answers d a b p q = p ∙ sym q
+two-answers A d a b p q = p ∙ sym q

@@ -55,4 +55,4 @@ Permitted d r = r ≡ d
 
 -- **two-answers.** Any two answers that such a contract permits are equal.
 abbrev pub TwoAnswers : Type 1
-TwoAnswers = {A : Type 0} (d a b : A) → Permitted d a → Permitted d b → a ≡ b
+TwoAnswers = (A : Type 0) (d a b : A) → Permitted d a → Permitted d b → a ≡ b
