@@ -1,7 +1,7 @@
 -- A segment that the opening accepted fits the same kernel: no evaluation of it is refused with 14. Assumes nothing.
 use Prim.Native.Nat.{ℕ}
-use mathlib.Core.Path.{_≡_, refl, sym, ap, _∙_, subst}
-use mathlib.Core.Bool.{Bool, true, false, cond, not, _&&_, _||_, true≢false}
+use mathlib.Core.Path.{_≡_, refl, sym, _∙_, subst}
+use mathlib.Core.Bool.{Bool, true, false, cond, not, _||_, true≢false}
 use mathlib.Core.List.{List}
 use native.Mathlib.Omega.{arith}
 use lib.Dec.{T, eqb, ltb}
@@ -19,14 +19,13 @@ use Rattle.daf.specs.declared.Family.{Family}
 use Rattle.daf.specs.declared.Summary.{Summary}
 use Rattle.segment.specs.Kinds.{formOf, handled, noTrailer, trailerAt, kindWith, kindOf, typeIn, trailerIn, sameTrailer, sameKind}
 use Rattle.segment.specs.Malformed.{limitNan, misplaced, lengthOf, trailerSize, badSize, badInterval, overruns, badRecords, badTrailer, badData, malformed, malformedIn, kindIn, segmentOf, judged}
-use Rattle.segment.specs.Evaluating.{unsupported, unfit, evaluated}
+use Rattle.segment.specs.Evaluating.{unfit, evaluated}
 use Rattle.segment.specs.declared.Form.{Form}
 use Rattle.segment.specs.declared.Form.the-variants.{Other, Two, Three, Nine, Thirteen}
 use Rattle.segment.specs.declared.Kind.{Kind}
 use Rattle.segment.specs.declared.Kind.the-variants.{Unsupported}
 use Rattle.segment.specs.declared.Trailer.{Trailer}
 use Rattle.segment.specs.declared.Segment.{Segment}
-use Rattle.segment.specs.declared.Judged.{Judged}
 use Rattle.segment.specs.declared.Judged.the-variants.{Accepted, Malformed}
 use Rattle.segment.specs.declared.Evaluated.the-variants.{Refused}
 use Rattle.segment.proofs.Tests.{or-first, or-second}

@@ -1,5 +1,5 @@
 -- Exactly when a segment is refused: 9 at the opening, and 12, 14, 13 and 16 at an evaluation, 16 never. Assumes nothing.
-use Prim.Native.Nat.{ℕ, zero, suc, _≤_, _<_}
+use Prim.Native.Nat.{ℕ, zero, suc, _<_}
 use mathlib.Core.Path.{_≡_, refl, sym, ap, _∙_}
 use mathlib.Core.Bool.{Bool, true, false, cond, true≢false}
 use mathlib.Core.List.{List, [], _∷_, map}
@@ -24,9 +24,7 @@ use Rattle.segment.specs.Evaluating.{unsupported, unfit, zeroRadius, emp
 use Rattle.segment.specs.declared.Kind.{Kind}
 use Rattle.segment.specs.declared.Kind.the-variants.{Unsupported, Type2, Type3, Type9, Type13}
 use Rattle.segment.specs.declared.Segment.{Segment}
-use Rattle.segment.specs.declared.Judged.{Judged}
 use Rattle.segment.specs.declared.Judged.the-variants.{Accepted, Malformed}
-use Rattle.segment.specs.declared.Evaluated.{Evaluated}
 use Rattle.segment.specs.declared.Evaluated.the-variants.{State as Answer, Refused}
 use Rattle.segment.proofs.Fit.{fitting}
 
