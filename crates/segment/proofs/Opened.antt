@@ -118,6 +118,11 @@ pub unfit-data : (f : Family) (k : List ℕ) {s t : Segment} → SameData s t �
 unfolding unfit
 unfit-data f k d = rw (d .first, d .last, d .type, d .start, d .end, d .kind)
 
+-- They evaluate alike.
+pub evaluated-data : (f : Family) (k : List ℕ) {s t : Segment} → SameData s t → (i : ℕ) (et : Float) → evaluated f k s i et ≡ evaluated f k t i et
+unfolding evaluated
+evaluated-data f k d i et = rw (unfit-data f k d, d .type, d .start, d .kind)
+
 -- **opened-fits**, for one segment: on the kernel that it was opened from no evaluation of it is refused with 14, whatever its mark is.
 pub opened-fits : (f : Family) (k : List ℕ) (sum : Summary) (s t : Segment) → judged f k sum ≡ Accepted s → SameData s t
     → (i : ℕ) (et : Float) → evaluated f k t i et ≡ Refused TableUnfit → ⊥

@@ -24,7 +24,9 @@ use Rattle.segment.specs.Evaluating.{unsupported, unfit, zeroRadius, emp
 use Rattle.segment.specs.declared.Kind.{Kind}
 use Rattle.segment.specs.declared.Kind.the-variants.{Unsupported, Type2, Type3, Type9, Type13}
 use Rattle.segment.specs.declared.Segment.{Segment}
+use Rattle.segment.specs.declared.Judged.{Judged}
 use Rattle.segment.specs.declared.Judged.the-variants.{Accepted, Malformed}
+use Rattle.segment.specs.declared.Evaluated.{Evaluated}
 use Rattle.segment.specs.declared.Evaluated.the-variants.{State as Answer, Refused}
 use Rattle.segment.proofs.Fit.{fitting}
 
@@ -116,3 +118,13 @@ never-16 f k s i et j e = go (refused-by f k s i et (EmptyWindow j) e)
     go (suc (suc (suc zero)), h, q) =
         true≢false (sym (h .1 .1 .1) ∙ window-some k (natAbs (s .start)) (s .kind) (fitting f k s (h .0) (h .1 .0) .1))
     go (suc (suc (suc (suc n))), h, q) = h .1 .1 .1 .1
+
+-- ---- the contracts leave no choice
+
+-- **two-answers**: any two answers that the contract of `judge` permits are equal ..
+pub two-judgements : (f : Family) (k : List ℕ) (s : Summary) (x y : Judged) → x ≡ judged f k s → y ≡ judged f k s → x ≡ y
+two-judgements f k s x y p q = p ∙ sym q
+
+-- .. and any two of `evaluate`.
+pub two-answers : (f : Family) (k : List ℕ) (s : Segment) (i : ℕ) (et : Float) (x y : Evaluated) → x ≡ evaluated f k s i et → y ≡ evaluated f k s i et → x ≡ y
+two-answers f k s i et x y p q = p ∙ sym q
