@@ -1,19 +1,16 @@
 -- A segment at et behind refusals 12 and 14, one law for each way. Assumes nothing.
 use Prim.Native.Nat.{ℕ, _+_, _*_, _≤_, _<_}
-use mathlib.Core.Path.{_≡_, refl, sym, ap, _∙_}
+use mathlib.Core.Path.{_≡_, refl, sym, ap}
 use mathlib.Core.Bool.{Bool, true, false}
 use mathlib.Core.List.{List}
 use native.Mathlib.Nat.{mul-le-mul-left, mul-comm, mul-suc, le-trans, le-of-eq}
 use native.Mathlib.Omega.{arith}
 use lib.Dec.{eqb}
-use lib.Ieee.{Float, eq}
-use Rattle.bits.specs.F64.{+0}
-use Rattle.bits.specs.Bytes.{doubleAt}
+use lib.Ieee.{Float}
 use Rattle.bits.proofs.Whole.{record-lt}
 use Rattle.refusal.specs.declared.Refusal.the-variants.{ZeroRadius, EmptyWindow}
 use Rattle.frame.specs.declared.State.{State}
 use Rattle.daf.specs.Addresses.{byteOf}
-use Rattle.cheby.specs.declared.Cheby.{Cheby}
 use Rattle.cheby.specs.declared.Cheby.the-variants.{Value, NoRadius}
 use Rattle.cheby.specs.Cheby.{recordFor, unlessZero, record2, type2Of, type3Of}
 use Rattle.interp.specs.Window.{windowSize}
