@@ -38,7 +38,7 @@ abbrev pub mayEnd : Refusal → Bool
 mayEnd r = isOwn r || eqb (numberOf r) 11
 
 -- two constructors are never equal
-clash : {X : Type 0} → _≡_ {A = ℕ} 0 1 → X
+pub clash : {X : Type 0} → _≡_ {A = ℕ} 0 1 → X
 clash z = absurd (let y = z in omega arith)
 
 refusal-eq : (r s : Refusal) → _≡_ {A = Evaluated} (evaluation.Refused r) (evaluation.Refused s) → r ≡ s

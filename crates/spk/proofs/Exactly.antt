@@ -1,20 +1,21 @@
--- EXACTLY WHEN a question is refused with 10, 11, 14 or 15, for any evaluation that gives only its own refusals (12, 13, 14, 16).
+-- EXACTLY WHEN a question is refused with 10, 11, 14 or 15, and a segment alone with 10, 14, 15 or 17, for any evaluation that gives only
+-- its own refusals (12, 13, 14, 16).
 -- Assumes nothing.
 use Prim.Native.Nat.{ℕ, _≤_, _<_}
 use mathlib.Core.Path.{_≡_, refl, sym, ap, _∙_}
 use mathlib.Core.Bool.{Bool, true, false, cond, _||_, true≢false}
-use mathlib.Core.Logic.{_⊎_, inl, inr, ⊎-elim}
+use mathlib.Core.Logic.{_⊎_, inl, inr, ⊎-elim, _↔_}
 use mathlib.Core.List.{List}
 use native.Mathlib.Omega.{arith}
 use native.Mathlib.Decide.{decLt}
 use lib.Dec.{eqb}
-use lib.Ieee.{isNan}
+use lib.Ieee.{Float, isNan}
 use lib.IntN.{ℤ}
 use Rattle.bits.proofs.Tests.{by-test, or-left}
 use Rattle.frame.specs.declared.State.{State}
 use Rattle.frame.specs.State.{finiteState}
 use Rattle.refusal.specs.declared.Refusal.{Refusal}
-use Rattle.refusal.specs.declared.Refusal.the-variants.{EpochNan, NoCoverage, TableUnfit, NotFinite}
+use Rattle.refusal.specs.declared.Refusal.the-variants.{EpochNan, NoCoverage, TableUnfit, NotFinite, NoSegment}
 use Rattle.segment.specs.declared.Segment.{Segment}
 use Rattle.segment.specs.declared.Evaluated.{Evaluated}
 use Rattle.segment.specs.declared.Evaluated.the-variants as evaluation
@@ -24,7 +25,7 @@ use Rattle.table.specs.Segments.{seg}
 use Rattle.chain.specs.Step.{Evaluation}
 use Rattle.chain.specs.Walk.{noCoverage, toZero}
 use Rattle.chain.specs.When.{isOwn, OwnOnly}
-use Rattle.chain.proofs.Ends.{mayEnd, zero-own}
+use Rattle.chain.proofs.Ends.{clash, mayEnd, zero-own}
 use Rattle.spk.specs.declared.Question.{Question}
 use Rattle.spk.specs.declared.Memory.{Memory}
 use Rattle.spk.specs.declared.Way.{Way}
@@ -36,13 +37,11 @@ use Rattle.spk.specs.Choosing.{lastReversed, forwardIn, remembered}
 use Rattle.spk.specs.Answers.{answerOf, refusedAnswer, sameAnswer, settled, negatedOf, lessOf, differenceOf}
 use Rattle.spk.specs.Asking.{Found, legFrom, chained, backward, foundBy, answerTo, askedBy, asked}
 use Rattle.spk.specs.Turning.{isRefused}
-use Rattle.spk.specs.When.{Iff, Open, RefusedBy, found, When10, When11, When14, When15}
+use Rattle.spk.specs.Alone.{aloneAnswer}
+use Rattle.spk.specs.When.{Open, RefusedBy, found, When10, When11, When14, When15}
 use Rattle.spk.proofs.Settling.{settled-refused, settled-state}
+use Rattle.spk.proofs.Single.{alone-unfit, alone-nan, alone-none, alone-some}
 use Rattle.spk.proofs.Order.{asked-same, asked-unfit, asked-nan, asked-choice}
-
--- two constructors are never equal
-clash : {X : Type 0} → _≡_ {A = ℕ} 0 1 → X
-clash z = absurd (let y = z in omega arith)
 
 -- a refused answer's way
 way-refused : (r : Refusal) → refusedAnswer r .way ≡ ways.Refused r
@@ -166,8 +165,8 @@ module _ (limit : ℕ) (ev : Evaluation) (segs : List Segment) (n : ℕ) (m : Me
     other : {X : Type 0} (r : Refusal) → mayEnd r ≡ false → found limit ev segs n m q .result ≡ evaluation.Refused r → X
     other r f e = absurd (true≢false (sym (found-own ev own segs n q (forwardIn segs n m q) r e) ∙ f))
 
-    pub exactly-10 : Iff (RefusedBy limit ev segs n m q EpochNan) (When10 limit ev segs n m q)
-    exactly-10 = (λ h. let w = why EpochNan h in only (w .0) (w .1), where-10)
+    pub exactly-10 : When10 limit ev segs n m q ↔ RefusedBy limit ev segs n m q EpochNan
+    exactly-10 = (where-10, λ h. let w = why EpochNan h in only (w .0) (w .1))
       where
         only : isSame q ≡ false → Why EpochNan → When10 limit ev segs n m q
         only e (unfit l x) = clash (cc)
@@ -178,8 +177,8 @@ module _ (limit : ℕ) (ev : Evaluation) (segs : List Segment) (n : ℕ) (m : Me
         where-10 : When10 limit ev segs n m q → RefusedBy limit ev segs n m q EpochNan
         where-10 w = ap (λ (a : Asked). a .answer .way) (asked-nan limit ev segs n m q _ (w .other) (w .fits) (w .nan)) ∙ way-refused EpochNan
 
-    pub exactly-14 : Iff (RefusedBy limit ev segs n m q TableUnfit) (When14 limit ev segs n m q)
-    exactly-14 = (λ h. let w = why TableUnfit h in record { other = w .0; either = only (w .1) }, λ w. where-14 (w .other) (w .either))
+    pub exactly-14 : When14 limit ev segs n m q ↔ RefusedBy limit ev segs n m q TableUnfit
+    exactly-14 = (λ w. where-14 (w .other) (w .either), λ h. let w = why TableUnfit h in record { other = w .0; either = only (w .1) })
       where
         only : Why TableUnfit → (limit < n) ⊎ (Open limit n q × (found limit ev segs n m q .result ≡ evaluation.Refused TableUnfit))
         only (unfit l x) = inl l
@@ -192,8 +191,8 @@ module _ (limit : ℕ) (ev : Evaluation) (segs : List Segment) (n : ℕ) (m : Me
             ⊎-elim (λ l. ap (λ (a : Asked). a .answer .way) (asked-unfit limit ev segs n m q _ e l) ∙ way-refused TableUnfit)
             (λ p. given-refused TableUnfit (p .0) (p .1))
 
-    pub exactly-15 : Iff (RefusedBy limit ev segs n m q NotFinite) (When15 limit ev segs n m q)
-    exactly-15 = (λ h. only (why NotFinite h .1), λ w. given-infinite (w .past) (w .state) (w .given) (w .not-finite))
+    pub exactly-15 : When15 limit ev segs n m q ↔ RefusedBy limit ev segs n m q NotFinite
+    exactly-15 = (λ w. given-infinite (w .past) (w .state) (w .given) (w .not-finite), λ h. only (why NotFinite h .1))
       where
         only : Why NotFinite → When15 limit ev segs n m q
         only (unfit l x) = clash (cc)
@@ -201,8 +200,8 @@ module _ (limit : ℕ) (ev : Evaluation) (segs : List Segment) (n : ℕ) (m : Me
         only (refused o x) = other NotFinite refl x
         only (infinite o s x f y) = record { past = o; state = s; given = x; not-finite = f }
 
-    pub exactly-11 : (b : ℤ) → Iff (RefusedBy limit ev segs n m q (NoCoverage b)) (When11 limit ev segs n m q b)
-    exactly-11 b = (λ h. only (why (NoCoverage b) h .1), where-11)
+    pub exactly-11 : (b : ℤ) → When11 limit ev segs n m q b ↔ RefusedBy limit ev segs n m q (NoCoverage b)
+    exactly-11 b = (where-11, λ h. only (why (NoCoverage b) h .1))
       where
         only : Why (NoCoverage b) → When11 limit ev segs n m q b
         only (unfit l x) = clash (cc)
@@ -217,3 +216,89 @@ module _ (limit : ℕ) (ev : Evaluation) (segs : List Segment) (n : ℕ) (m : Me
         where-11 w =
             given-refused (NoCoverage b) (w .past)
             (ap (λ (c : Choice). foundBy ev segs n q c .result) (w .forward) ∙ ap (λ (c : Choice). backward ev segs n q c .result) (w .reversed) ∙ w .chain)
+
+-- ---- a segment alone
+module _ (limit : ℕ) (ev : Evaluation) (segs : List Segment) (n i : ℕ) (et : Float) where
+  -- it is refused so
+  abbrev pub AloneBy : Refusal → Type 0
+  AloneBy r = aloneAnswer limit ev segs n i et .way ≡ ways.Refused r
+
+  data WhyAlone (r : Refusal) : Type 0 where
+    unfit : limit < n → TableUnfit ≡ r → WhyAlone r
+    nan : n ≤ limit → isNan et ≡ true → EpochNan ≡ r → WhyAlone r
+    none : n ≤ limit → isNan et ≡ false → n ≤ i → NoSegment ≡ r → WhyAlone r
+    refused : n ≤ limit → isNan et ≡ false → i < n → ev (seg segs i) i et ≡ evaluation.Refused r → WhyAlone r
+    infinite : n ≤ limit → isNan et ≡ false → i < n → (s : State) → ev (seg segs i) i et ≡ evaluation.State s → finiteState s ≡ false → NotFinite ≡ r → WhyAlone r
+
+  why-alone : (r : Refusal) → AloneBy r → WhyAlone r
+  why-alone r h =
+      elim (decLt limit n) [
+        | yes l ↦ unfit l (from TableUnfit (alone-unfit limit ev segs n i et l))
+        | no g ↦
+            let le : n ≤ limit = omega arith in
+            by-test (isNan et) (λ d. nan le d (from EpochNan (alone-nan limit ev segs n i et le d)))
+            (λ d.
+            elim (decLt i n) [
+              | yes b ↦
+                  ⊎-elim (λ p. refused le d b p) (λ p. infinite le d b (p .0) (p .1) (p .2) (p .3))
+                  (settled-why (ways.Forward i) (ev (seg segs i) i et) r refl (ap (λ (a : Answer). a .way) (sym (alone-some limit ev segs n i et le d b)) ∙ h))
+              | no b ↦ none le d (omega arith) (from NoSegment (alone-none limit ev segs n i et le d (omega arith)))
+            ])
+      ]
+    where
+      from : (x : Refusal) → aloneAnswer limit ev segs n i et ≡ refusedAnswer x → x ≡ r
+      from x e = answer-refused x r (ap (λ (a : Answer). a .way) (sym e) ∙ h)
+
+  by-refusal : (r : Refusal) → aloneAnswer limit ev segs n i et ≡ refusedAnswer r → AloneBy r
+  by-refusal r e = ap (λ (a : Answer). a .way) e ∙ way-refused r
+
+  module _ (own : OwnOnly ev) where
+    foreign : {X : Type 0} (r : Refusal) → isOwn r ≡ false → ev (seg segs i) i et ≡ evaluation.Refused r → X
+    foreign r f e = absurd (true≢false (sym (own (seg segs i) i et r e) ∙ f))
+
+    pub alone-10 : (n ≤ limit) × (isNan et ≡ true) ↔ AloneBy EpochNan
+    alone-10 = (λ w. by-refusal EpochNan (alone-nan limit ev segs n i et (w .0) (w .1)), λ h. only (why-alone EpochNan h))
+      where
+        only : WhyAlone EpochNan → (n ≤ limit) × (isNan et ≡ true)
+        only (unfit l x) = clash (cc)
+        only (nan l d x) = (l, d)
+        only (none l d b x) = clash (cc)
+        only (refused l d b x) = foreign EpochNan refl x
+        only (infinite l d b s x f y) = clash (cc)
+
+    pub alone-17 : (n ≤ limit) × (isNan et ≡ false) × (n ≤ i) ↔ AloneBy NoSegment
+    alone-17 = (λ w. by-refusal NoSegment (alone-none limit ev segs n i et (w .0) (w .1) (w .2)), λ h. only (why-alone NoSegment h))
+      where
+        only : WhyAlone NoSegment → (n ≤ limit) × (isNan et ≡ false) × (n ≤ i)
+        only (unfit l x) = clash (cc)
+        only (nan l d x) = clash (cc)
+        only (none l d b x) = (l, d, b)
+        only (refused l d b x) = foreign NoSegment refl x
+        only (infinite l d b s x f y) = clash (cc)
+
+    pub alone-14 : (limit < n) ⊎ ((n ≤ limit) × (isNan et ≡ false) × (i < n) × (ev (seg segs i) i et ≡ evaluation.Refused TableUnfit)) ↔ AloneBy TableUnfit
+    alone-14 = (
+      ⊎-elim (λ l. by-refusal TableUnfit (alone-unfit limit ev segs n i et l))
+          (λ w. by-refusal TableUnfit (alone-some limit ev segs n i et (w .0) (w .1) (w .2) ∙ settled-refused _ _ TableUnfit (w .3))),
+      λ h. only (why-alone TableUnfit h),
+    )
+      where
+        only : WhyAlone TableUnfit → (limit < n) ⊎ ((n ≤ limit) × (isNan et ≡ false) × (i < n) × (ev (seg segs i) i et ≡ evaluation.Refused TableUnfit))
+        only (unfit l x) = inl l
+        only (nan l d x) = clash (cc)
+        only (none l d b x) = clash (cc)
+        only (refused l d b x) = inr (l, d, b, x)
+        only (infinite l d b s x f y) = clash (cc)
+
+    pub alone-15 : (n ≤ limit) × (isNan et ≡ false) × (i < n) × ((s : State) × (ev (seg segs i) i et ≡ evaluation.State s) × (finiteState s ≡ false)) ↔ AloneBy NotFinite
+    alone-15 = (
+      λ w. by-refusal NotFinite (alone-some limit ev segs n i et (w .0) (w .1) (w .2) ∙ settled-state _ _ (w .3 .0) false (w .3 .1) (w .3 .2)),
+      λ h. only (why-alone NotFinite h),
+    )
+      where
+        only : WhyAlone NotFinite → (n ≤ limit) × (isNan et ≡ false) × (i < n) × ((s : State) × (ev (seg segs i) i et ≡ evaluation.State s) × (finiteState s ≡ false))
+        only (unfit l x) = clash (cc)
+        only (nan l d x) = clash (cc)
+        only (none l d b x) = clash (cc)
+        only (refused l d b x) = foreign NotFinite refl x
+        only (infinite l d b s x f y) = (l, d, b, (s, x, f))
