@@ -8,3 +8,4 @@ pub mod Exactly
 pub mod OwnBytes
 pub mod TwoAnswers
 pub mod InKernel
+pub mod Cases
