@@ -2,4 +2,4 @@
 pub mod Step
 pub mod Walk
 pub mod When
-pub mod Alike
+pub mod Touched

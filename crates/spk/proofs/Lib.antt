@@ -7,3 +7,5 @@ pub mod NoMemory
 pub mod Exactly
 pub mod OwnBytes
 pub mod TwoAnswers
+pub mod InKernel
+pub mod Cases

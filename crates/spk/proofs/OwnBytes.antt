@@ -3,7 +3,7 @@
 --     own-forward, own-reversed    an answer that names a segment, by that segment alone
 --     own-chained                  a chained question, by the segments that its two walks evaluate
 --     own-alone                    a segment alone, by itself
--- What an evaluation of one segment depends on, its own doubles, is the evaluation's to say.
+-- What an evaluation of one segment depends on, its own doubles, is in `InKernel`.
 -- Assumes nothing.
 use Prim.Native.Nat.{ℕ, _≤_}
 use mathlib.Core.Path.{_≡_, refl, sym, ap, ap₂, _∙_}
@@ -27,8 +27,9 @@ use Rattle.table.specs.declared.Choice.the-variants.{At, Nothing}
 use Rattle.table.specs.Segments.{seg}
 use Rattle.chain.specs.Step.{Evaluation}
 use Rattle.chain.specs.Walk.{chainLimit}
-use Rattle.chain.specs.Alike.{AlikeOn}
-use Rattle.chain.proofs.Own.{zero-alike}
+use Rattle.chain.specs.Touched.{TouchedOn}
+use Rattle.chain.proofs.Ends.{clash}
+use Rattle.chain.proofs.Own.{Alike, zero-alike}
 use Rattle.spk.specs.declared.Question.{Question}
 use Rattle.spk.specs.declared.Memory.{Memory}
 use Rattle.spk.specs.declared.Way.{Way}
@@ -42,9 +43,6 @@ use Rattle.spk.specs.Asking.{Found, legFrom, chained, backward, foundBy,
 use Rattle.spk.specs.Alone.{aloneAnswer}
 use Rattle.spk.specs.When.{Open}
 use Rattle.spk.proofs.Order.{asked-same, asked-unfit, asked-nan, asked-choice}
-
-clash : {X : Type 0} → _≡_ {A = ℕ} 0 1 → X
-clash z = absurd (let y = z in omega arith)
 
 -- ---- an answer that names a segment was given by it
 -- neither zeros for the same body nor a refusal
@@ -138,21 +136,21 @@ module _ (limit : ℕ) (ev ev' : Evaluation) (segs : List Segment) (n : ℕ) (m 
       alike-choice Nothing f (ap (backward ev segs n q) r ∙ e ∙ sym (ap (backward ev' segs n q) r))
 
   -- an answer that names a segment forward
-  pub own-forward : (i : ℕ) → asked limit ev segs n m q .answer .way ≡ ways.Forward i → ev (seg segs i) i (q .et) ≡ ev' (seg segs i) i (q .et)
+  pub own-forward : (i : ℕ) → asked limit ev segs n m q .answer .way ≡ ways.Forward i → Alike ev ev' segs i
       → asked limit ev segs n m q ≡ asked limit ev' segs n m q
   own-forward i w e =
-      alike-choice (At i) (named-forward limit ev segs n m q i w) (ap (λ (x : Evaluated). record { way = ways.Forward i; result = x }) e)
+      alike-choice (At i) (named-forward limit ev segs n m q i w) (ap (λ (x : Evaluated). record { way = ways.Forward i; result = x }) (e (q .et)))
 
   -- an answer that names a segment reversed
-  pub own-reversed : (i : ℕ) → asked limit ev segs n m q .answer .way ≡ ways.Reversed i → ev (seg segs i) i (q .et) ≡ ev' (seg segs i) i (q .et)
+  pub own-reversed : (i : ℕ) → asked limit ev segs n m q .answer .way ≡ ways.Reversed i → Alike ev ev' segs i
       → asked limit ev segs n m q ≡ asked limit ev' segs n m q
   own-reversed i w e =
       let r = named-reversed limit ev segs n m q i w in
-      alike-back (At i) (r .0) (r .1) (ap (λ (x : Evaluated). record { way = ways.Reversed i; result = negatedOf x }) e)
+      alike-back (At i) (r .0) (r .1) (ap (λ (x : Evaluated). record { way = ways.Reversed i; result = negatedOf x }) (e (q .et)))
 
   -- a question with no segment of its pair either way
   pub own-chained : forwardIn segs n m q ≡ Nothing → lastReversed segs n q ≡ Nothing
-      → AlikeOn ev ev' segs n (legFrom q) chainLimit → AlikeOn ev ev' segs n (legFrom (swapped q)) chainLimit
+      → TouchedOn ev segs n (Alike ev ev' segs) (legFrom q) chainLimit → TouchedOn ev segs n (Alike ev ev' segs) (legFrom (swapped q)) chainLimit
       → asked limit ev segs n m q ≡ asked limit ev' segs n m q
   unfolding chained
   own-chained f r a b =
@@ -161,10 +159,10 @@ module _ (limit : ℕ) (ev ev' : Evaluation) (segs : List Segment) (n : ℕ) (m 
       (zero-alike ev ev' segs n (legFrom (swapped q)) b))
 
 -- a segment alone
-pub own-alone : (limit : ℕ) (ev ev' : Evaluation) (segs : List Segment) (n i : ℕ) (et : Float) → ev (seg segs i) i et ≡ ev' (seg segs i) i et
+pub own-alone : (limit : ℕ) (ev ev' : Evaluation) (segs : List Segment) (n i : ℕ) (et : Float) → Alike ev ev' segs i
     → aloneAnswer limit ev segs n i et ≡ aloneAnswer limit ev' segs n i et
 unfolding aloneAnswer
 own-alone limit ev ev' segs n i et e =
     ap
     (λ (x : Evaluated).
-    firstOf (case (ltb limit n) TableUnfit ∷ case (isNan et) EpochNan ∷ case (leb n i) NoSegment ∷ []) refusedAnswer (settled (ways.Forward i) x)) e
+    firstOf (case (ltb limit n) TableUnfit ∷ case (isNan et) EpochNan ∷ case (leb n i) NoSegment ∷ []) refusedAnswer (settled (ways.Forward i) x)) (e et)

@@ -22,10 +22,6 @@ use Rattle.spk.specs.Questions.{isSame}
 use Rattle.spk.specs.Choosing.{lastReversed, forwardIn}
 use Rattle.spk.specs.Asking.{Found, foundBy, chained, asked}
 
--- Both ways.
-abbrev pub Iff : Type 0 → Type 0 → Type 0
-Iff A B = (A → B) × (B → A)
-
 -- Past the first three tests: target is not center, the count fits, the epoch is no NaN.
 pub record Open (limit n : ℕ) (q : Question) : Type 0 where
   pub other : isSame q ≡ false
