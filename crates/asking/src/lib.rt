@@ -1,0 +1,203 @@
+// A file of questions put to an SPK kernel: its records, the order of the refusals, and a line for each answer.
+ghost use mathlib.Core.Path.{_≡_};
+ghost use Prim.Native.Nat.{_+_, _*_, _≤_};
+ghost use lib.ListN.{length};
+ghost use Rattle.lines.specs.Written.{Written};
+ghost use Rattle.opening.specs.Opening.{refusedOpening};
+ghost use Rattle.asking.specs.Records.{questionAt, rowsOf};
+ghost use Rattle.asking.specs.Order.{tooLong, openedFor};
+ghost use Rattle.asking.specs.Lines.{tailText, wordLine, namedLine, answerText};
+use daf::Family;
+use frame::NaifFrame;
+use frame::State;
+use opening::Opened;
+use opening::Outcome;
+use records::Mark;
+use refusal::Refusal;
+use spk::Answer;
+use spk::Memory;
+use spk::Question;
+use spk::Wanted;
+use spk::Way;
+use table::Table;
+
+// A question record has 18 bytes and begins with the mark A5 5B.
+const SIZE: usize = 18;
+
+const MARK: Mark = Mark {
+    first: 0xa5,
+    second: 0x5b,
+};
+
+// A matrix file has nine doubles.
+pub const MATRIX: usize = 72;
+
+// Question i of a file.
+pub fn question_at(asked: &[u8], i: usize) -> Question
+    requires { ⌜ 18 * i + 18 ≤ length (now asked) ⌝ }
+    ensures { λ r. ⌜ r ≡ questionAt (now (asked .entry)) i ⌝ }
+{
+    let p = SIZE * i;
+    Question {
+        target: bits::le_i32(asked, p + 2),
+        center: bits::le_i32(asked, p + 6),
+        et: bits::double_at(asked, p + 10),
+    }
+}
+
+// The nine doubles of a matrix file, row by row.
+pub fn rows(matrix: &[u8]) -> [[f64; 3]; 3]
+    requires { ⌜ 72 ≤ length (now matrix) ⌝ }
+    ensures { λ r. ⌜ r ≡ rowsOf (now (matrix .entry)) ⌝ }
+{
+    [
+        [
+            bits::double_at(matrix, 0),
+            bits::double_at(matrix, 8),
+            bits::double_at(matrix, 16),
+        ],
+        [
+            bits::double_at(matrix, 24),
+            bits::double_at(matrix, 32),
+            bits::double_at(matrix, 40),
+        ],
+        [
+            bits::double_at(matrix, 48),
+            bits::double_at(matrix, 56),
+            bits::double_at(matrix, 64),
+        ],
+    ]
+}
+
+// A refused opening.
+fn refused(refusal: Refusal) -> Opened
+    ensures { λ r. ⌜ r ≡ refusedOpening refusal ⌝ }
+{
+    Opened {
+        outcome: Outcome::Refused(refusal),
+        table: Table::empty(),
+    }
+}
+
+// The kernel or the questions are over a program's limit.
+fn over(kernel: &[u8], asked: &[u8]) -> bool
+    ensures { λ r. ⌜ r ≡ tooLong (now (kernel .entry)) (now (asked .entry)) ⌝ }
+{
+    streams::too_long(kernel.len()) || streams::too_long(asked.len())
+}
+
+// A kernel opened for a file of questions: 18, then the opening's refusals, then 19, or its table.
+pub fn open(kernel: &[u8], asked: &[u8]) -> Opened
+    ensures { λ r. ⌜ r ≡ openedFor (now (kernel .entry)) (now (asked .entry)) ⌝ }
+{
+    if over(kernel, asked) {
+        return refused(Refusal::InputTooLong);
+    }
+    let opened = opening::open(kernel, Family::Spk);
+    let outcome = opened.outcome;
+    match outcome {
+        Outcome::Refused(_) => opened,
+        Outcome::Accepted => {
+            if records::fit(asked, SIZE, MARK) {
+                opened
+            } else {
+                refused(Refusal::BadRecord)
+            }
+        }
+    }
+}
+
+// Puts the end of an answer's line: its state and the newline.
+fn put_tail(out: &mut [u8], at: usize, state: State) -> usize
+    requires { ⌜ at + 103 ≤ length (now out) ⌝ }
+    ensures { λ r. ⌜ Written (now (out .entry)) at (tailText state) (now (out .exit)) r ⌝ }
+    ensures { λ r. ⌜ r ≤ at + 103 ⌝ }
+{
+    let end = lines::put_state(out, at, state);
+    lines::put(out, end, b"\n")
+}
+
+// Puts the line of an answer that names no segment: its number, a word, its state.
+fn put_word_line(out: &mut [u8], i: usize, word: &[u8], state: State) -> usize
+    requires { ⌜ (length (now word) ≤ 10) × (153 ≤ length (now out)) ⌝ }
+    ensures { λ r. ⌜ Written (now (out .entry)) 0 (wordLine i (now (word .entry)) state) (now (out .exit)) r ⌝ }
+    ensures { λ r. ⌜ r ≤ 153 ⌝ }
+{
+    let first = lines::put_decimal(out, 0, i as u64);
+    let tail = lines::put(out, first, word);
+    put_tail(out, tail, state)
+}
+
+// Puts the line of an answer that names one: its number, a word, the segment's number, its state.
+fn put_named_line(out: &mut [u8], i: usize, word: &[u8], segment: usize, state: State) -> usize
+    requires { ⌜ (length (now word) ≤ 10) × (153 ≤ length (now out)) ⌝ }
+    ensures { λ r. ⌜ Written (now (out .entry)) 0 (namedLine i (now (word .entry)) segment state) (now (out .exit)) r ⌝ }
+    ensures { λ r. ⌜ r ≤ 153 ⌝ }
+{
+    let first = lines::put_decimal(out, 0, i as u64);
+    let second = lines::put(out, first, word);
+    let tail = lines::put_decimal(out, second, segment as u64);
+    put_tail(out, tail, state)
+}
+
+// Puts the line of answer i at the start of a buffer.
+pub fn put_answer(out: &mut [u8], i: usize, answer: Answer) -> usize
+    requires { ⌜ 153 ≤ length (now out) ⌝ }
+    ensures { λ r. ⌜ Written (now (out .entry)) 0 (answerText i answer) (now (out .exit)) r ⌝ }
+    ensures { λ r. ⌜ r ≤ 153 ⌝ }
+{
+    let way = answer.way;
+    let state = answer.state;
+    match way {
+        Way::Same => put_word_line(out, i, b" same", state),
+        Way::Forward(segment) => put_named_line(out, i, b" forward ", segment, state),
+        Way::Reversed(segment) => put_named_line(out, i, b" reversed ", segment, state),
+        Way::Chained => put_word_line(out, i, b" chained", state),
+        Way::Refused(refusal) => lines::put_refusal(out, 0, refusal),
+    }
+}
+
+// Writes the line of answer i to standard output. No contract can speak of what is written.
+fn write_answer(i: usize, answer: Answer) -> bool {
+    let mut line = [0u8; 153];
+    let n = put_answer(&mut line, i, answer);
+    streams::write(&line[..n])
+}
+
+// Writes a line for each question. The memory goes from question to question.
+fn write_answers(kernel: &[u8], table: Table, asked: &[u8], wanted: Wanted, rot: [[f64; 3]; 3]) {
+    let n = asked.len() / SIZE;
+    let mut memory = Memory::Blank;
+    let mut i: usize = 0;
+    while i < n {
+        let q = question_at(asked, i);
+        let r = spk::state_in(kernel, table, memory, q, wanted, rot);
+        memory = r.memory;
+        if !write_answer(i, r.answer) {
+            return;
+        }
+        i += 1;
+    }
+}
+
+// Writes what a kernel replies to a file of questions: a refusal, or a line each. With a matrix of 72 bytes each state is asked in ECLIPJ2000.
+// No contract can speak of what is written.
+pub fn reply(kernel: &[u8], asked: &[u8], matrix: &[u8]) {
+    let opened = open(kernel, asked);
+    let outcome = opened.outcome;
+    let table = opened.table;
+    match outcome {
+        Outcome::Refused(refusal) => {
+            streams::write_refusal(refusal);
+        }
+        Outcome::Accepted => {
+            if matrix.len() == MATRIX {
+                let to = Wanted::In(NaifFrame::EclipJ2000);
+                write_answers(kernel, table, asked, to, rows(matrix));
+            } else {
+                let none = [[0.0; 3]; 3];
+                write_answers(kernel, table, asked, Wanted::AsItStands, none);
+            }
+        }
+    }
+}
