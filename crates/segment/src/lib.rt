@@ -177,12 +177,12 @@ fn misplaced(s: Segment, whole: usize) -> bool
     whole < end_of(s)
 }
 
-// A trailer's number made whole.
+// A trailer's number made whole, from its bits.
 fn whole_at(kernel: &[u8], address: usize) -> u64
     requires { ⌜ (1 ≤ address) × (8 * address ≤ length (now kernel)) ⌝ }
     ensures { λ r. ⌜ r ≡ wholeNumber (doubleOfAddress (now (kernel .entry)) address) ⌝ }
 {
-    bits::cut_u64(daf::double(kernel, address))
+    bits::cut_bits(bits::le_u64(kernel, 8 * (address - 1)))
 }
 
 // The trailer of types 2 and 3, whose last double has address `end`.
