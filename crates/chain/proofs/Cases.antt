@@ -3,8 +3,8 @@
 use Prim.Native.Nat.{ℕ, zero, suc}
 use mathlib.Core.Path.{_≡_, refl}
 use mathlib.Core.Bool.{false, cond}
-use mathlib.Core.List.{List, [], _∷_, map}
-use lib.IntN.{ℤ, pos}
+use mathlib.Core.List.{List, [], _∷_}
+use lib.IntN.{pos}
 use lib.Ieee.{Float, binary64, add, le, neg, ofInt, ofBits}
 use lib.ListN.{length}
 use Rattle.bits.specs.F64.{+0, whole}
@@ -16,7 +16,6 @@ use Rattle.segment.specs.declared.Segment.{Segment}
 use Rattle.segment.specs.declared.Kind.the-variants as kinds
 use Rattle.segment.specs.declared.Evaluated.{Evaluated}
 use Rattle.segment.specs.declared.Evaluated.the-variants as evaluation
-use Rattle.chain.specs.declared.Leg.{Leg}
 use Rattle.chain.specs.Step.{met, look, stepIn, stepFrom}
 use Rattle.chain.specs.Walk.{walkFrom, toZero}
 

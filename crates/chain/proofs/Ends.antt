@@ -3,7 +3,7 @@
 --     blocked-where, blocked-only  a step is blocked exactly where no segment leaves the body
 --     walk-good, zero-good         a walk's refusal is 11 or one of an evaluation that the table's segments give
 -- Assumes nothing.
-use mathlib.Core.Path.{_≡_, refl, sym, ap, _∙_, subst}
+use mathlib.Core.Path.{_≡_, refl, sym, ap, _∙_}
 use mathlib.Core.Logic.{_⊎_, inl, inr, ⊎-elim}
 use mathlib.Core.Bool.{Bool, true, false, cond, _||_, true≢false}
 use mathlib.Core.List.{List}
@@ -21,10 +21,8 @@ use Rattle.segment.specs.declared.Evaluated.{Evaluated}
 use Rattle.segment.specs.declared.Evaluated.the-variants as evaluation
 use Rattle.table.specs.Segments.{seg}
 use Rattle.chain.specs.declared.Leg.{Leg}
-use Rattle.chain.specs.declared.Hop.{Hop}
 use Rattle.chain.specs.declared.Step.{Step}
 use Rattle.chain.specs.declared.Step.the-variants.{Blocked, Kept, Home, Refused}
-use Rattle.chain.specs.declared.Next.{Next}
 use Rattle.chain.specs.declared.Next.the-variants.{Ended, Onward}
 use Rattle.chain.specs.Step.{Evaluation, leaves, goesHome, keptOr, met, seen, look, isEnd, stepIn, stepFrom}
 use Rattle.chain.specs.Walk.{noCoverage, onward, returns, advance, follow, walkFrom, isHome, toZero}

@@ -5,7 +5,6 @@ use mathlib.Core.List.{List}
 use Prim.Native.Nat.{ℕ, suc, _+_, _-_, _≤_, _<_}
 use native.Mathlib.Numerals.{add-one}
 use native.Mathlib.Omega.{arith}
-use Rattle.bits.proofs.Tests.{by-test}
 use Rattle.frame.specs.declared.State.{State}
 use Rattle.segment.specs.declared.Segment.{Segment}
 use Rattle.segment.specs.declared.Evaluated.{Evaluated}
@@ -13,7 +12,7 @@ use Rattle.table.specs.Segments.{seg}
 use Rattle.chain.specs.declared.Leg.{Leg}
 use Rattle.chain.specs.declared.Hop.{Hop}
 use Rattle.chain.specs.declared.Step.{Step}
-use Rattle.chain.specs.declared.Step.the-variants.{Blocked, Kept, Home, Refused}
+use Rattle.chain.specs.declared.Step.the-variants.{Blocked, Kept, Home}
 use Rattle.chain.specs.Step.{Evaluation, leaves, goesHome, keptOr, met, seen, look, isEnd, placeAfter, stepIn, stepFrom}
 
 -- two hops are equal by their fields

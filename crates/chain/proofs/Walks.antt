@@ -1,16 +1,15 @@
 -- Laws of the walk: of `advance`, one for each way through the code, and of `walkFrom`, its end and a step. Assumes nothing.
-use mathlib.Core.Path.{_≡_, refl, sym, ap, _∙_}
+use mathlib.Core.Path.{_≡_, ap, _∙_}
 use mathlib.Core.Bool.{Bool, true, false, cond}
 use mathlib.Core.List.{List}
 use Prim.Native.Nat.{ℕ, suc}
 use Rattle.frame.specs.declared.State.{State}
 use Rattle.segment.specs.declared.Segment.{Segment}
-use Rattle.segment.specs.declared.Evaluated.{Evaluated}
 use Rattle.segment.specs.declared.Evaluated.the-variants as evaluation
 use Rattle.chain.specs.declared.Leg.{Leg}
 use Rattle.chain.specs.declared.Hop.{Hop}
 use Rattle.chain.specs.declared.Step.{Step}
-use Rattle.chain.specs.declared.Step.the-variants.{Blocked, Kept, Home, Refused}
+use Rattle.chain.specs.declared.Step.the-variants.{Kept}
 use Rattle.chain.specs.declared.Next.{Next}
 use Rattle.chain.specs.declared.Next.the-variants.{Ended, Onward}
 use Rattle.chain.specs.Step.{Evaluation, stepFrom}

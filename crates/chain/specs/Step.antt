@@ -6,7 +6,6 @@ use lib.IntN.{pos}
 use lib.Ieee.{Float}
 use Rattle.bits.specs.Same.{sameZ}
 use Rattle.frame.specs.declared.State.{State}
-use Rattle.refusal.specs.declared.Refusal.{Refusal}
 use Rattle.segment.specs.declared.Segment.{Segment}
 use Rattle.segment.specs.declared.Evaluated.{Evaluated}
 use Rattle.segment.specs.declared.Evaluated.the-variants as evaluation

@@ -4,7 +4,7 @@ ghost use Prim.Native.Nat.{_≤_, _<_};
 ghost use Rattle.daf.specs.declared.Family.the-variants.{Spk};
 ghost use Rattle.segment.specs.Evaluating.{evaluated};
 ghost use Rattle.table.specs.Places.{tableLimit};
-ghost use Rattle.chain.specs.Step.{leaves, goesHome, met, seen, look, placeAfter, stepFrom};
+ghost use Rattle.chain.specs.Step.{leaves, goesHome, met, look, placeAfter, stepFrom};
 ghost use Rattle.chain.specs.Walk.{noCoverage, onward, returns, advance, walkFrom, isHome, toZero};
 use daf::Family;
 use frame::State;

@@ -2,11 +2,10 @@
 -- Assumes nothing.
 use Prim.Native.Nat.{ℕ}
 use mathlib.Core.Path.{_≡_, refl}
-use mathlib.Core.Bool.{Bool, true, false, cond}
+use mathlib.Core.Bool.{false, cond}
 use mathlib.Core.List.{List, [], _∷_, map}
 use lib.IntN.{pos}
 use lib.Ieee.{Float, nan, inf, binary64, add, sub, mul, neg, le, isNan, ofInt, ofBits}
-use lib.ListN.{length}
 use Rattle.bits.specs.F64.{+0, whole}
 use Rattle.bits.specs.Same.{sameZ}
 use Rattle.frame.specs.declared.State.{State}
@@ -28,7 +27,6 @@ use Rattle.spk.specs.declared.Memory.{Memory}
 use Rattle.spk.specs.declared.Memory.the-variants.{Blank, Kept}
 use Rattle.spk.specs.declared.Way.{Way}
 use Rattle.spk.specs.declared.Way.the-variants.{Same, Forward, Reversed, Chained, Refused}
-use Rattle.spk.specs.declared.Answer.{Answer}
 use Rattle.spk.specs.declared.Asked.{Asked}
 use Rattle.spk.specs.declared.Wanted.the-variants.{AsItStands, In}
 use Rattle.spk.specs.Choosing.{recall, forwardIn}

@@ -2,17 +2,15 @@
 -- its own refusals (12, 13, 14, 16).
 -- Assumes nothing.
 use Prim.Native.Nat.{ℕ, _≤_, _<_}
-use mathlib.Core.Path.{_≡_, refl, sym, ap, _∙_, subst}
-use mathlib.Core.Bool.{Bool, true, false, cond, _&&_, true≢false}
+use mathlib.Core.Path.{_≡_, refl, sym, ap, _∙_}
+use mathlib.Core.Bool.{Bool, true, false, cond, true≢false}
 use mathlib.Core.Logic.{_⊎_, inl, inr, ⊎-elim, _↔_}
 use mathlib.Core.List.{List}
 use native.Mathlib.Omega.{arith}
 use native.Mathlib.Decide.{decLt}
-use borrow.Author.Tests.{ltb-true}
-use lib.Dec.{ltb}
 use lib.Ieee.{Float, isNan}
 use lib.IntN.{ℤ}
-use Rattle.bits.proofs.Tests.{by-test, and-first}
+use Rattle.bits.proofs.Tests.{by-test}
 use Rattle.frame.specs.declared.State.{State}
 use Rattle.frame.specs.State.{finiteState}
 use Rattle.refusal.specs.declared.Refusal.{Refusal}
@@ -23,26 +21,25 @@ use Rattle.segment.specs.declared.Evaluated.the-variants as evaluation
 use Rattle.table.specs.declared.Choice.{Choice}
 use Rattle.table.specs.declared.Choice.the-variants.{At, Nothing}
 use Rattle.table.specs.Segments.{seg}
-use Rattle.table.specs.Choosing.{lastIn}
-use Rattle.table.proofs.Last.{Below, below-else, last-below}
+use Rattle.table.proofs.Last.{Chosen, last-chosen}
 use Rattle.chain.specs.Step.{Evaluation}
-use Rattle.chain.specs.Walk.{noCoverage, toZero}
+use Rattle.chain.specs.Walk.{toZero}
 use Rattle.chain.specs.When.{isOwn, OwnOnly}
 use Rattle.chain.proofs.Ends.{clash, Eleven, zero-good}
 use Rattle.spk.specs.declared.Question.{Question}
 use Rattle.spk.specs.declared.Memory.{Memory}
-use Rattle.spk.specs.declared.Memory.the-variants.{Blank, Kept}
 use Rattle.spk.specs.declared.Way.{Way}
 use Rattle.spk.specs.declared.Way.the-variants as ways
 use Rattle.spk.specs.declared.Answer.{Answer}
 use Rattle.spk.specs.declared.Asked.{Asked}
-use Rattle.spk.specs.Questions.{isSame, swapped, hits, serves}
-use Rattle.spk.specs.Choosing.{recall, lastReversed, forwardIn, remembered}
-use Rattle.spk.specs.Answers.{answerOf, refusedAnswer, sameAnswer, settled, negatedOf, lessOf, differenceOf}
-use Rattle.spk.specs.Asking.{Found, legFrom, chained, backward, foundBy, answerTo, askedBy, asked}
+use Rattle.spk.specs.Questions.{isSame, swapped, hits}
+use Rattle.spk.specs.Choosing.{lastReversed, forwardIn}
+use Rattle.spk.specs.Answers.{answerOf, refusedAnswer, sameAnswer, settled, negatedOf, differenceOf}
+use Rattle.spk.specs.Asking.{legFrom, chained, backward, foundBy, answerTo, asked}
 use Rattle.spk.specs.Turning.{isRefused}
 use Rattle.spk.specs.Alone.{aloneAnswer}
 use Rattle.spk.specs.When.{Open, RefusedBy, found, When10, When11, When14, When15}
+use Rattle.spk.proofs.Forged.{forward-chosen}
 use Rattle.spk.proofs.Settling.{settled-refused, settled-state}
 use Rattle.spk.proofs.Single.{alone-unfit, alone-nan, alone-none, alone-some}
 use Rattle.spk.proofs.Order.{asked-same, asked-unfit, asked-nan, asked-choice}
@@ -100,30 +97,18 @@ module _ (ev : Evaluation) (segs : List Segment) (n : ℕ) (q : Question) (G : R
       (difference-why (toZero ev segs n (legFrom q)) (toZero ev segs n (legFrom (swapped q))) r h)
 
   -- a refusal is one of an evaluation, or the chain's
-  found-why : (c : Choice) (r : Refusal) → Below n c → foundBy ev segs n q c .result ≡ evaluation.Refused r
+  found-why : (c : Choice) (r : Refusal) → Chosen (hits q) segs n c → foundBy ev segs n q c .result ≡ evaluation.Refused r
       → G r ⊎ ((c ≡ Nothing) × (lastReversed segs n q ≡ Nothing) × (chained ev segs n q ≡ evaluation.Refused r))
-  found-why (At i) r b h = inl (own i b (q .et) r h)
-  found-why Nothing r b h = go (lastReversed segs n q) refl (last-below (hits (swapped q)) segs n n (omega arith)) h
+  found-why (At i) r b h = inl (own i (b .0) (q .et) r h)
+  found-why Nothing r b h = go (lastReversed segs n q) refl (last-chosen (hits (swapped q)) segs n) h
     where
-      go : (c : Choice) → lastReversed segs n q ≡ c → Below n c → backward ev segs n q c .result ≡ evaluation.Refused r
+      go : (c : Choice) → lastReversed segs n q ≡ c → Chosen (hits (swapped q)) segs n c → backward ev segs n q c .result ≡ evaluation.Refused r
           → G r ⊎ ((_≡_ {A = Choice} Nothing Nothing) × (lastReversed segs n q ≡ Nothing) × (chained ev segs n q ≡ evaluation.Refused r))
-      go (At i) e l p = inl (own i l (q .et) r (negated-why _ r p))
+      go (At i) e l p = inl (own i (l .0) (q .et) r (negated-why _ r p))
       go Nothing e l p = inr (refl, e, p)
 
-  found-good : (c : Choice) (r : Refusal) → Below n c → foundBy ev segs n q c .result ≡ evaluation.Refused r → G r ⊎ Eleven r
+  found-good : (c : Choice) (r : Refusal) → Chosen (hits q) segs n c → foundBy ev segs n q c .result ≡ evaluation.Refused r → G r ⊎ Eleven r
   found-good c r b h = ⊎-elim (λ o. inl o) (λ w. chained-good r (w .2)) (found-why c r b h)
-
--- a forward choice's number is below the count
-forward-below : (segs : List Segment) (n : ℕ) (m : Memory) (q : Question) → Below n (forwardIn segs n m q)
-unfolding forwardIn recall
-forward-below segs n m q = below-else n (recall segs n m q) (lastIn (hits q) segs n) (known m) (last-below (hits q) segs n n (omega arith))
-  where
-    known : (x : Memory) → Below n (recall segs n x q)
-    known Blank = tt
-    known (Kept i) =
-        by-test (ltb i n && serves q (seg segs i))
-        (λ e. subst (λ (b : Bool). Below n (cond b (At i) Nothing)) (sym e) (ltb-true i n (and-first (ltb i n) (serves q (seg segs i)) e)))
-        (λ e. subst (λ (b : Bool). Below n (cond b (At i) Nothing)) (sym e) tt)
 
 -- a choice's way is no refusal
 way-open : (ev : Evaluation) (segs : List Segment) (n : ℕ) (q : Question) (c : Choice) → isRefused (foundBy ev segs n q c .way) ≡ false
@@ -186,7 +171,7 @@ module _ (limit : ℕ) (ev : Evaluation) (segs : List Segment) (n : ℕ) (m : Me
       only (refused o x) =
           ⊎-elim (λ f. f refl) (λ w. let z = w .is in clash (cc))
           (found-good ev segs n q (λ r. TableUnfit ≡ r → ⊥) (λ i l et r e t. fit i l et (e ∙ ap evaluation.Refused (sym t))) (forwardIn segs n m q) TableUnfit
-          (forward-below segs n m q) x)
+          (forward-chosen segs n m q) x)
       only (infinite o s x f y) = clash (cc)
 
   module _ (own : OwnOnly ev) where
@@ -198,7 +183,7 @@ module _ (limit : ℕ) (ev : Evaluation) (segs : List Segment) (n : ℕ) (m : Me
     other : {X : Type 0} (r : Refusal) → isOwn r ≡ false → (Eleven r → ⊥) → found limit ev segs n m q .result ≡ evaluation.Refused r → X
     other r f g e =
         ⊎-elim (λ o. absurd (true≢false (sym o ∙ f))) (λ w. absurd (g w))
-        (found-good ev segs n q (λ x. isOwn x ≡ true) by-own (forwardIn segs n m q) r (forward-below segs n m q) e)
+        (found-good ev segs n q (λ x. isOwn x ≡ true) by-own (forwardIn segs n m q) r (forward-chosen segs n m q) e)
 
     pub exactly-10 : When10 limit ev segs n m q ↔ RefusedBy limit ev segs n m q EpochNan
     exactly-10 = (where-10, λ h. let w = why EpochNan h in only (w .0) (w .1))
@@ -244,7 +229,7 @@ module _ (limit : ℕ) (ev : Evaluation) (segs : List Segment) (n : ℕ) (m : Me
         only (refused o x) =
             ⊎-elim (λ y. absurd (true≢false (sym y)))
             (λ y. record { past = o; forward = y .0; reversed = y .1; chain = y .2 })
-            (found-why ev segs n q (λ r. isOwn r ≡ true) by-own (forwardIn segs n m q) (NoCoverage b) (forward-below segs n m q) x)
+            (found-why ev segs n q (λ r. isOwn r ≡ true) by-own (forwardIn segs n m q) (NoCoverage b) (forward-chosen segs n m q) x)
         only (infinite o s x f y) = clash (cc)
 
         where-11 : When11 limit ev segs n m q b → RefusedBy limit ev segs n m q (NoCoverage b)

@@ -13,7 +13,6 @@ use mathlib.Core.List.{List}
 use lib.Ieee.{Float}
 use lib.IntN.{ℤ, natAbs}
 use lib.ListN.{length}
-use Rattle.refusal.specs.declared.Refusal.{Refusal}
 use Rattle.refusal.specs.declared.Refusal.the-variants.{EpochNan, NoCoverage, TableUnfit, NotFinite}
 use Rattle.refusal.specs.Order.{First, given}
 use Rattle.daf.specs.declared.Family.the-variants.{Spk}

@@ -4,6 +4,7 @@ pub mod Scan
 pub mod Order
 pub mod Single
 pub mod NoMemory
+pub mod Forged
 pub mod Exactly
 pub mod OwnBytes
 pub mod TwoAnswers

@@ -32,15 +32,14 @@ use Rattle.table.specs.declared.Table.{Table}
 use Rattle.table.specs.declared.Choice.{Choice}
 use Rattle.table.specs.declared.Choice.the-variants.{At, Nothing}
 use Rattle.table.specs.Segments.{isCovering, overlaps, seg}
-use Rattle.table.specs.Choosing.{lastIn, orElse}
-use Rattle.table.specs.Marks.{rivals, others, mark, marks, MarkedRight}
+use Rattle.table.specs.Choosing.{orElse}
+use Rattle.table.specs.Marks.{rivals, others, marks, MarkedRight}
 use Rattle.table.proofs.Last.{last-alone}
 use Rattle.table.proofs.Marks.{marks-right}
 use Rattle.chain.specs.Step.{Evaluation}
 use Rattle.spk.specs.declared.Question.{Question}
 use Rattle.spk.specs.declared.Memory.{Memory}
 use Rattle.spk.specs.declared.Memory.the-variants.{Blank, Kept}
-use Rattle.spk.specs.declared.Answer.{Answer}
 use Rattle.spk.specs.declared.Asked.{Asked}
 use Rattle.spk.specs.Questions.{isSame, isPair, hits, serves}
 use Rattle.spk.specs.Choosing.{recall, lastForward, forwardIn, remembered}

@@ -7,17 +7,13 @@ use lib.Dec.{ltb}
 use lib.Ieee.{Float, nan, inf, fin, isNan, ne}
 use borrow.Author.Tests.{lt-ltb, le-ltb}
 use Rattle.bits.proofs.Nan.{is-nan}
-use Rattle.refusal.specs.declared.Refusal.{Refusal}
 use Rattle.refusal.specs.declared.Refusal.the-variants.{TableUnfit, EpochNan}
 use Rattle.refusal.specs.Order.{case, firstOf}
 use Rattle.segment.specs.declared.Segment.{Segment}
 use Rattle.table.specs.declared.Choice.{Choice}
-use Rattle.table.specs.declared.Choice.the-variants.{At, Nothing}
-use Rattle.table.specs.Segments.{seg}
 use Rattle.chain.specs.Step.{Evaluation}
 use Rattle.spk.specs.declared.Question.{Question}
 use Rattle.spk.specs.declared.Memory.{Memory}
-use Rattle.spk.specs.declared.Answer.{Answer}
 use Rattle.spk.specs.declared.Asked.{Asked}
 use Rattle.spk.specs.Questions.{isSame}
 use Rattle.spk.specs.Choosing.{forwardIn, remembered}

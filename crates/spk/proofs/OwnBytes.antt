@@ -24,7 +24,6 @@ use Rattle.segment.specs.declared.Evaluated.{Evaluated}
 use Rattle.segment.specs.declared.Evaluated.the-variants as evaluation
 use Rattle.table.specs.declared.Choice.{Choice}
 use Rattle.table.specs.declared.Choice.the-variants.{At, Nothing}
-use Rattle.table.specs.Segments.{seg}
 use Rattle.chain.specs.Step.{Evaluation}
 use Rattle.chain.specs.Walk.{chainLimit}
 use Rattle.chain.specs.Touched.{TouchedOn}
@@ -41,7 +40,6 @@ use Rattle.spk.specs.Choosing.{lastReversed, forwardIn, remembered}
 use Rattle.spk.specs.Answers.{answerOf, refusedAnswer, sameAnswer, settled, negatedOf, differenceOf}
 use Rattle.spk.specs.Asking.{Found, legFrom, chained, backward, foundBy, answerTo, askedBy, asked}
 use Rattle.spk.specs.Alone.{aloneAnswer}
-use Rattle.spk.specs.When.{Open}
 use Rattle.spk.proofs.Order.{asked-same, asked-unfit, asked-nan, asked-choice}
 
 -- ---- an answer that names a segment was given by it

@@ -1,5 +1,5 @@
 -- Laws of `settled`, `negatedOf` and `chained`, one for each way through the code. Assumes nothing.
-use mathlib.Core.Path.{_≡_, sym, ap, ap₂, _∙_}
+use mathlib.Core.Path.{_≡_, ap, ap₂, _∙_}
 use mathlib.Core.Bool.{Bool, cond}
 use mathlib.Core.List.{List}
 use Prim.Native.Nat.{ℕ}
@@ -13,9 +13,7 @@ use Rattle.segment.specs.declared.Evaluated.the-variants as evaluation
 use Rattle.chain.specs.Step.{Evaluation}
 use Rattle.chain.specs.Walk.{toZero}
 use Rattle.spk.specs.declared.Question.{Question}
-use Rattle.spk.specs.declared.Memory.{Memory}
 use Rattle.spk.specs.declared.Way.{Way}
-use Rattle.spk.specs.declared.Answer.{Answer}
 use Rattle.spk.specs.declared.Asked.{Asked}
 use Rattle.spk.specs.Questions.{swapped}
 use Rattle.spk.specs.Answers.{answerOf, refusedAnswer, settled, negatedOf, lessOf, differenceOf}

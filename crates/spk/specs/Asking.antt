@@ -23,7 +23,7 @@ use Rattle.spk.specs.declared.Way.the-variants.{Forward, Reversed, Chain
 use Rattle.spk.specs.declared.Answer.{Answer}
 use Rattle.spk.specs.declared.Asked.{Asked}
 use Rattle.spk.specs.Questions.{isSame, swapped}
-use Rattle.spk.specs.Choosing.{lastForward, lastReversed, forwardIn, rememberedAt, remembered}
+use Rattle.spk.specs.Choosing.{lastReversed, forwardIn, remembered}
 use Rattle.spk.specs.Answers.{refusedAnswer, sameAnswer, settled, negatedOf, differenceOf}
 
 -- The walk of a question's target to body 0 starts with the sum +0.

@@ -2,7 +2,6 @@
 ghost use mathlib.Core.Path.{_≡_};
 ghost use Prim.Native.Nat.{_≤_, _<_};
 ghost use Rattle.daf.specs.declared.Family.the-variants.{Spk};
-ghost use Rattle.frame.specs.State.{zeroState};
 ghost use Rattle.segment.specs.Evaluating.{evaluated};
 ghost use Rattle.table.specs.Places.{tableLimit};
 ghost use Rattle.table.specs.Choosing.{orElse};
@@ -11,7 +10,7 @@ ghost use Rattle.spk.specs.Choosing.{rememberedAt};
 ghost use Rattle.spk.specs.Scanning.{placeOf, hitAt};
 ghost use Rattle.spk.specs.Answers.{answerOf, refusedAnswer, sameAnswer, settled, negatedOf, lessOf};
 ghost use Rattle.spk.specs.Asking.{legFrom, chained, asked};
-ghost use Rattle.spk.specs.Turning.{frameOf, isRefused, turnedTo, turnedAnswer, turnedAsked, askedIn};
+ghost use Rattle.spk.specs.Turning.{frameOf, isRefused, turnedTo, turnedAnswer, askedIn};
 ghost use Rattle.spk.specs.Alone.{aloneAnswer};
 use chain::Leg;
 use daf::Family;

@@ -3,7 +3,7 @@ use mathlib.Core.Path.{_≡_, ap, ap₂}
 use mathlib.Core.Bool.{Bool, cond, _||_}
 use mathlib.Core.List.{List, []}
 use Prim.Native.Nat.{ℕ, _≤_, _<_}
-use lib.Dec.{ltb, leb}
+use lib.Dec.{leb}
 use borrow.Author.Tests.{lt-ltb, le-ltb, le-leb, lt-leb}
 use Rattle.daf.specs.Names.{nameOf}
 use Rattle.segment.specs.declared.Segment.{Segment}

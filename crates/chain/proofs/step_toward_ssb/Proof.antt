@@ -4,12 +4,11 @@ use Rattle.segment.specs.Evaluating.{evaluated}
 use Rattle.chain.specs.declared.Step.{Step}
 -- `chain::step_toward_ssb` meets its contract. What the scan still comes to, from i on with what is kept, is what it comes to from 0 on.
 -- Assumes nothing.
-use mathlib.Core.Path.{_≡_, refl, sym, ap, _∙_}
+use mathlib.Core.Path.{_≡_, sym, ap, _∙_}
 use Prim.Native.Nat.{_≤_, _-_}
 use native.Mathlib.Omega.{arith}
-use borrow.Author.Needs.{needs}
 use Rattle.chain.specs.declared.Step.the-variants.{Blocked}
-use Rattle.chain.specs.Step.{stepIn, stepFrom}
+use Rattle.chain.specs.Step.{stepIn}
 use Rattle.chain.proofs.Steps.{place-most, place-less, step-end, step-turn, step-from}
 use Rattle.chain.proofs.step_toward_ssb.Statement.{statement}
 use Rattle.chain.proofs.step_toward_ssb.Tie as tie

@@ -1,16 +1,15 @@
-use lib.Ieee.{isNan}
 use Rattle.spk.specs.declared.Question.{Question}
 use Rattle.spk.specs.declared.Answer.{Answer}
-use Rattle.spk.specs.Questions.{isSame}
 use Rattle.spk.specs.Choosing.{lastReversed, forwardIn}
 use Rattle.spk.specs.Scanning.{hitAt}
 use Rattle.spk.specs.Asking.{backward, answerTo}
+use Rattle.spk.specs.When.{Open}
 -- `spk::state` meets its contract. What is left to scan for the pair and for the swapped pair is what there is; a reversed choice that
 -- was kept comes first. Assumes nothing.
 use mathlib.Core.Path.{_≡_, refl, sym, ap, _∙_, subst}
 use mathlib.Core.Logic.{⊎-elim}
-use mathlib.Core.Bool.{Bool, true, false}
-use Prim.Native.Nat.{ℕ, _≤_, _-_}
+use mathlib.Core.Bool.{true, false}
+use Prim.Native.Nat.{_≤_, _-_}
 use native.Mathlib.Omega.{arith}
 use borrow.Author.Needs.{needs}
 use Rattle.daf.specs.declared.Family.the-variants.{Spk}
@@ -36,12 +35,7 @@ Inv-loop kernel memory q table n place back kept₀ i₀ kept i =
 abbrev μ-loop : tie.MeasureT-loop
 μ-loop kernel memory q table n place back kept₀ i₀ kept i = i
 
--- past the first three tests: target is not center, the count fits, and the epoch is no NaN
-record Open (limit n : ℕ) (q : Question) : Type 0 where
-  other : isSame q ≡ false
-  fits : n ≤ limit
-  number : isNan (q .et) ≡ false
-
+-- past the first three tests
 opened : (c : tie.Else3 Inv-loop μ-loop) → Open 256 (c .before .before .before .before .before .before .args .t2 .count) (c .before .before .before .before .before .before .args .q)
 opened c = record {
   other = sym (c .before .before .before .before .is-same .ensures) ∙ c .before .before .before .if1 .left;
