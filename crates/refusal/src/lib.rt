@@ -39,6 +39,8 @@ pub enum Refusal {
     NoSegment,
     // 18: a program's input is over 65,536 bytes
     InputTooLong,
+    // 19: a record of a program's input doesn't begin with its mark, or is cut short
+    BadRecord,
 }
 
 impl Refusal {
@@ -65,6 +67,7 @@ impl Refusal {
             Refusal::EmptyWindow(_) => 16,
             Refusal::NoSegment => 17,
             Refusal::InputTooLong => 18,
+            Refusal::BadRecord => 19,
         }
     }
 
@@ -91,6 +94,7 @@ impl Refusal {
             Refusal::EmptyWindow(segment) => segment as i64,
             Refusal::NoSegment => 0,
             Refusal::InputTooLong => 0,
+            Refusal::BadRecord => 0,
         }
     }
 }

@@ -91,6 +91,9 @@ enum-told-12 c = search needs
 enum-told-13 : tie.Need-enum-told-13
 enum-told-13 c = search needs
 
+enum-told-14 : tie.Need-enum-told-14
+enum-told-14 c = search needs
+
 returns : tie.Need-returns
 returns c = sym (ap detailOf (c .enum-told .given .1))
 
@@ -145,6 +148,9 @@ returns-17 c = sym (ap detailOf (c .enum-told12 .given .1))
 returns-18 : tie.Need-returns-18
 returns-18 c = sym (ap detailOf (c .enum-told13 .given .1))
 
+returns-19 : tie.Need-returns-19
+returns-19 c = sym (ap detailOf (c .enum-told14 .given .1))
+
 pub detail-spec : {M : Type 1} → statement M
 detail-spec =
     tie.close
@@ -172,6 +178,7 @@ detail-spec =
     cast-result-5
     enum-told-12
     enum-told-13
+    enum-told-14
     returns
     returns-2
     returns-3
@@ -189,4 +196,5 @@ detail-spec =
     returns-15
     returns-16
     returns-17
-    returns-18)
+    returns-18
+    returns-19)

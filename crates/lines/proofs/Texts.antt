@@ -1,0 +1,107 @@
+-- Texts put one behind the other, and what `io`'s digits come to. Assumes nothing.
+use mathlib.Core.Path.{_≡_, refl, sym, ap, _∙_, subst}
+use mathlib.Core.Bool.{Bool, true, false, cond}
+use mathlib.Core.List.{List, [], _∷_, _++_, append-assoc}
+use Prim.Native.Nat.{ℕ, zero, suc, _+_, _-_, _*_, _/_, _%_, _^_, _≤_, _<_}
+use native.Mathlib.Nat.{le-antisymm, lt-of-lt-of-le, mod-eq-of-lt, div-lt-iff-lt-mul, le-div-iff-mul-le, pow-suc, one-le-pow, pow-le-pow-right}
+use native.Mathlib.Omega.{arith}
+use lib.Dec.{ltb, lit≤}
+use lib.ListN.{length, take, length-append}
+use borrow.Author.Tests.{lt-ltb, le-ltb, ltb-true, ltb-false}
+use Rattle.io.specs.Digits.{glyph, digits, Fewest}
+use Rattle.lines.specs.Text.{decimalIn, decimalText, signedText, numberText}
+use Rattle.lines.specs.Written.{Written}
+
+-- one text behind another
+pub then : {before : List ℕ} {at : ℕ} {first second : List ℕ} {middle after : List ℕ} {next last : ℕ}
+    → Written before at first middle next → Written middle next second after last → Written before at (first ++ second) after last
+then {before} {at} {first} {second} a b = record {
+  ends = b .ends ∙ ap (λ (k : ℕ). k + length second) (a .ends) ∙ omega (arith, length-append first second);
+  reads = b .reads ∙ ap (λ (l : List ℕ). l ++ second) (a .reads) ∙ append-assoc (take at before) first second;
+}
+
+-- so many digits
+pub digits-length : (b k n : ℕ) → length (digits b k n) ≡ k
+digits-length b zero n = refl
+digits-length b (suc k) n = length-append (digits b k (n / b)) (glyph (n % b) ∷ []) ∙ ap (λ (j : ℕ). j + 1) (digits-length b k (n / b)) ∙ omega arith
+
+-- a number below a power takes no more digits than that
+pub most : (b least n k m : ℕ) → 0 < b → Fewest b least n k → least ≤ m → n < b ^ m → k ≤ m
+most b least n k m pos h l small = by (ltb m k) refl
+  where
+    over : m < k → ⊥
+    over o =
+        let larger : b ^ m ≤ b ^ (k - 1) = pow-le-pow-right pos (omega arith) in
+        omega (arith, h .2 (omega arith))
+
+    by : (t : Bool) → ltb m k ≡ t → k ≤ m
+    by true e = absurd (over (ltb-true m k e))
+    by false e = ltb-false m k e
+
+-- one turn of the text, by its test
+short : (f n : ℕ) → n < 10 → decimalIn (suc f) n ≡ glyph n ∷ []
+unfolding decimalIn
+short f n h = ap (λ (b : Bool). cond b (glyph n ∷ []) (decimalIn f (n / 10) ++ (glyph (n % 10) ∷ []))) (lt-ltb n 10 h)
+
+long : (f n : ℕ) → 10 ≤ n → decimalIn (suc f) n ≡ decimalIn f (n / 10) ++ (glyph (n % 10) ∷ [])
+unfolding decimalIn
+long f n h = ap (λ (b : Bool). cond b (glyph n ∷ []) (decimalIn f (n / 10) ++ (glyph (n % 10) ∷ []))) (le-ltb n 10 h)
+
+-- ten times a power is the next
+next-power : (k : ℕ) → 10 ^ suc k ≡ 10 ^ k * 10
+next-power k = pow-suc 10 k
+
+-- of a number that takes more than one digit: it is not below 10, and its tenth part takes one less
+module _ (k n : ℕ) (h : Fewest 10 1 n (suc (suc k))) where
+  least : 10 ^ k * 10 ≤ n
+  least =
+      subst (λ (p : ℕ). p ≤ n) (next-power k)
+      (subst (λ (j : ℕ). 10 ^ j ≤ n) (omega arith) (h .2 (omega arith)))
+
+  ten-or-more : 10 ≤ n
+  ten-or-more = omega (arith, least, one-le-pow k 10 (omega arith))
+
+  tenth : Fewest 10 1 (n / 10) (suc k)
+  tenth = (
+    omega arith,
+    div-lt-iff-lt-mul {k = 10} {x = n} {y = 10 ^ suc k} (omega arith) .1 (subst (λ (p : ℕ). n < p) (next-power (suc k)) (h .1)),
+    λ _. subst (λ (j : ℕ). 10 ^ j ≤ n / 10) (omega arith) (le-div-iff-mul-le {k = 10} {x = 10 ^ k} {y = n} (omega arith) .1 least),
+  )
+
+-- the fewest digits that hold a number are its text
+pub fewest : (k f n : ℕ) → Fewest 10 1 n k → k ≤ f → digits 10 k n ≡ decimalIn f n
+fewest zero f n h l = absurd (none (h .0))
+  where
+    none : 1 ≤ 0 → ⊥
+    none a = omega arith
+fewest (suc k) zero n h l = absurd (none l)
+  where
+    none : suc k ≤ 0 → ⊥
+    none a = omega arith
+fewest (suc zero) (suc f) n h l = ap (λ (d : ℕ). glyph d ∷ []) (mod-eq-of-lt (h .1)) ∙ sym (short f n (h .1))
+fewest (suc (suc k)) (suc f) n h l =
+    ap (λ (t : List ℕ). t ++ (glyph (n % 10) ∷ [])) (fewest (suc k) f (n / 10) (tenth k n h) (omega arith))
+    ∙ sym (long f n (ten-or-more k n h))
+
+-- a number in decimal has no more digits than it is given
+decimal-in : (f n : ℕ) → length (decimalIn f n) ≤ f
+unfolding decimalIn
+decimal-in zero n = omega arith
+decimal-in (suc f) n = turn (ltb n 10) (decimal-in f (n / 10))
+  where
+    turn : (b : Bool) → length (decimalIn f (n / 10)) ≤ f → length (cond b (glyph n ∷ []) (decimalIn f (n / 10) ++ (glyph (n % 10) ∷ []))) ≤ suc f
+    turn true h = omega arith
+    turn false h = omega (arith, length-append (decimalIn f (n / 10)) (glyph (n % 10) ∷ []))
+
+pub decimal-length : (n : ℕ) → length (decimalText n) ≤ 20
+unfolding decimalText
+decimal-length n = decimal-in 20 n
+
+-- the digits that `io::decimal` puts are the text
+pub decimal-text : (n k : ℕ) → n < 2 ^ 64 → Fewest 10 1 n k → digits 10 k n ≡ decimalText n
+unfolding decimalText
+decimal-text n k small h = fewest k 20 n h (most 10 1 n k 20 (omega arith) h (omega arith) (lt-of-lt-of-le small (lit≤ tt)))
+
+-- and those of `io::hex` are 16
+pub hex-places : (n k : ℕ) → n < 2 ^ 64 → Fewest 16 16 n k → k ≡ 16
+hex-places n k small h = le-antisymm (most 16 16 n k 16 (omega arith) h (omega arith) small) (h .0)

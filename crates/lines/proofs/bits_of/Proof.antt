@@ -1,0 +1,20 @@
+-- `lines::bits_of` meets its contract: past the test x is no NaN, which is what `to_bits` asks. Assumes nothing.
+use mathlib.Core.Path.{refl, sym, ap}
+use lib.Ieee.{binary64, toBits}
+use Rattle.bits.proofs.Nan.{is-number, is-nan}
+use borrow.Author.Needs.{needs}
+use Rattle.lines.proofs.bits_of.Statement.{statement}
+use Rattle.lines.proofs.bits_of.Tie as tie
+
+returns : tie.Need-returns
+unfolding toBits
+returns c = sym (ap (toBits binary64) (is-nan (c .before .args .x) (c .if1 .taken)))
+
+float-to-bits-result : tie.Need-float-to-bits-result
+float-to-bits-result c = is-number (c .before .args .x) (c .if1 .left)
+
+returns-2 : tie.Need-returns-2
+returns-2 c = search needs
+
+pub bits-of-spec : {M : Type 1} → statement M
+bits-of-spec = tie.close (tie.spec returns float-to-bits-result returns-2)
