@@ -1,0 +1,6 @@
+-- Laws that belong to no one function, and what is proved beyond the contracts.
+pub mod Ways
+pub mod Chosen
+pub mod Exactly
+pub mod OwnBytes
+pub mod TwoAnswers

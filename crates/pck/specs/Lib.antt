@@ -1,0 +1,3 @@
+-- The definitions that the contracts of `pck` cite, and what is proved beyond them.
+pub mod Orienting
+pub mod When
