@@ -1,0 +1,2 @@
+-- What the contracts of `inquiry` cite.
+pub mod Order

@@ -1,0 +1,31 @@
+-- The refusals of a kernel with a file of records, in their order.
+use Prim.Native.Nat.{ℕ}
+use mathlib.Core.Bool.{Bool, not, _||_}
+use mathlib.Core.List.{List, [], _∷_, _++_}
+use lib.Dec.{ltb}
+use lib.ListN.{length}
+use Rattle.refusal.specs.declared.Refusal.the-variants.{InputTooLong, BadRecord}
+use Rattle.refusal.specs.Order.{Case, case, firstOf}
+use Rattle.daf.specs.declared.Family.{Family}
+use Rattle.opening.specs.declared.Opened.{Opened}
+use Rattle.opening.specs.Opening.{openCases, refusedOpening, acceptedOpening, markedFor, tableOf, segmentsOf}
+use Rattle.records.specs.declared.Mark.{Mark}
+use Rattle.records.specs.Records.{recordsFit}
+use Rattle.streams.specs.Input.{inputLimit}
+
+-- An input is over the limit.
+abbrev pub tooLong : List ℕ → List ℕ → Bool
+tooLong kernel file = ltb inputLimit (length kernel) || ltb inputLimit (length file)
+
+-- 19: a record is cut short, or doesn't begin with its mark.
+abbrev pub recordCases : ℕ → Mark → List ℕ → List Case
+recordCases size mark file = case (not (recordsFit size mark file)) BadRecord ∷ []
+
+-- 18, the opening's refusals 1 to 9, then 19.
+abbrev pub fileCases : Family → ℕ → Mark → List ℕ → List ℕ → List Case
+fileCases f size mark kernel file = case (tooLong kernel file) InputTooLong ∷ (openCases f kernel ++ recordCases size mark file)
+
+-- The first of them that holds is given; where none does, the kernel's table.
+unfoldable pub openedFor : Family → ℕ → Mark → List ℕ → List ℕ → Opened
+openedFor f size mark kernel file =
+    firstOf (fileCases f size mark kernel file) refusedOpening (acceptedOpening (markedFor f (tableOf (segmentsOf f kernel))))

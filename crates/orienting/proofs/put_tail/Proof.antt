@@ -1,0 +1,30 @@
+-- `orienting::put_tail` meets its contract: the six numbers, then the newline. Assumes nothing.
+use native.Mathlib.Omega.{arith}
+use Rattle.lines.proofs.Texts.{then}
+use Rattle.orienting.specs.Lines.{tailText}
+use borrow.Author.Needs.{needs}
+use Rattle.orienting.proofs.put_tail.Statement.{statement}
+use Rattle.orienting.proofs.put_tail.Tie as tie
+
+put-state-requires : tie.Need-put-state-requires
+put-state-requires c κs = search needs
+
+slice-aggregate-put : tie.Need-slice-aggregate-put
+slice-aggregate-put c = search needs
+
+put-requires : tie.Need-put-requires
+put-requires c κs = search needs
+
+same-length : tie.Need-same-length
+same-length c = search needs
+
+returns : tie.Need-returns
+unfolding tailText
+returns c =
+    let p = c .before .before in
+    let s = p .before .before .before .before .before in
+    (then (s .put-state .ensures .0) (p .put .ensures), omega (arith, s .put-state .ensures .1, p .put .ensures .ends))
+
+pub put-tail-spec : {M : Type 1} → statement M
+put-tail-spec =
+    tie.close (tie.spec put-state-requires slice-aggregate-put put-requires same-length returns)

@@ -1,0 +1,3 @@
+-- What the contracts of `orienting` cite: the records, and the lines.
+pub mod Records
+pub mod Lines
