@@ -8,6 +8,8 @@ if [ ! -e "$plugin" ] || [ "$here/count.c" -nt "$plugin" ]; then
   mkdir -p "$here/target"
   gcc -shared -fPIC -O2 -o "$plugin" "$here/count.c"
 fi
+# the C library copies with its vector loop: a `rep movsb` would be counted once for each byte
+export GLIBC_TUNABLES=glibc.cpu.x86_rep_movsb_threshold=1000000000:glibc.cpu.x86_rep_stosb_threshold=1000000000
 count() { qemu-x86_64 -plugin "$plugin" "$@" 2>&1 >/dev/null | sed -n 's/^instructions //p'; }
 few=$(count "$@" 200)
 many=$(count "$@" 1200)

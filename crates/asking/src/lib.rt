@@ -161,7 +161,7 @@ pub fn put_answer(out: &mut [u8], i: usize, answer: Answer) -> usize
 fn write_answer(i: usize, answer: Answer) -> bool {
     let mut line = [0u8; 153];
     let n = put_answer(&mut line, i, answer);
-    streams::write(&line[..n])
+    streams::write(&line, n)
 }
 
 // Writes a line for each question. The memory goes from question to question.

@@ -5,18 +5,15 @@ use mathlib.Core.List.{List}
 use Prim.Native.Nat.{ℕ, suc, _+_, _-_, _≤_, _<_}
 use native.Mathlib.Numerals.{add-one}
 use native.Mathlib.Omega.{arith}
-use Rattle.bits.proofs.Tests.{by-test}
 use Rattle.frame.specs.declared.State.{State}
-use Rattle.daf.specs.declared.Family.the-variants.{Spk}
 use Rattle.segment.specs.declared.Segment.{Segment}
 use Rattle.segment.specs.declared.Evaluated.{Evaluated}
-use Rattle.segment.specs.Evaluating.{evaluated}
 use Rattle.table.specs.Segments.{seg}
 use Rattle.chain.specs.declared.Leg.{Leg}
 use Rattle.chain.specs.declared.Hop.{Hop}
 use Rattle.chain.specs.declared.Step.{Step}
-use Rattle.chain.specs.declared.Step.the-variants.{Blocked, Kept, Home, Refused}
-use Rattle.chain.specs.Step.{leaves, goesHome, keptOr, met, seen, look, isEnd, placeAfter, stepIn, stepFrom}
+use Rattle.chain.specs.declared.Step.the-variants.{Blocked, Kept, Home}
+use Rattle.chain.specs.Step.{Evaluation, leaves, goesHome, keptOr, met, seen, look, isEnd, placeAfter, stepIn, stepFrom}
 
 -- two hops are equal by their fields
 pub hop-eq : (a b : Hop) → a .center ≡ b .center → a .state ≡ b .state → a ≡ b
@@ -35,17 +32,17 @@ module _ (kept : Step) (s : Segment) (x : State) where
       ap₂ (λ (a : Step) (h : Hop). keptOr a (Kept h)) (sym o) (hop-eq hop (record { center = s .center; state = x }) p q)
       ∙ sym (ap (λ (b : Bool). cond b (Home x) (keptOr kept (Kept (record { center = s .center; state = x })))) e)
 
-module _ (k : List ℕ) (leg : Leg) (kept : Step) (s : Segment) (i : ℕ) where
+module _ (ev : Evaluation) (leg : Leg) (kept : Step) (s : Segment) (i : ℕ) where
   -- the segment is passed over
-  pub look-past : leaves s leg ≡ false → kept ≡ look k leg kept s i
+  pub look-past : leaves s leg ≡ false → kept ≡ look ev leg kept s i
   unfolding look
-  look-past e = sym (ap (λ (b : Bool). cond b (seen kept s (evaluated Spk k s i (leg .et))) kept) e)
+  look-past e = sym (ap (λ (b : Bool). cond b (seen kept s (ev s i (leg .et))) kept) e)
 
   -- it is evaluated
-  pub look-seen : (e : Evaluated) → leaves s leg ≡ true → evaluated Spk k s i (leg .et) ≡ e → seen kept s e ≡ look k leg kept s i
+  pub look-seen : (e : Evaluated) → leaves s leg ≡ true → ev s i (leg .et) ≡ e → seen kept s e ≡ look ev leg kept s i
   unfolding look
   look-seen e l h =
-      ap (seen kept s) (sym h) ∙ sym (ap (λ (b : Bool). cond b (seen kept s (evaluated Spk k s i (leg .et))) kept) l)
+      ap (seen kept s) (sym h) ∙ sym (ap (λ (b : Bool). cond b (seen kept s (ev s i (leg .et))) kept) l)
 
 -- ---- the place that the scan looks at next
 module _ (next : Step) (i n : ℕ) where
@@ -67,24 +64,24 @@ module _ (next : Step) (i n : ℕ) where
       go false = omega arith
 
 -- ---- a turn of the loop
-module _ (k : List ℕ) (segs : List Segment) (leg : Leg) where
-  pub step-end : (kept : Step) (i r : ℕ) → r ≡ 0 → stepIn k segs leg kept i r ≡ kept
+module _ (ev : Evaluation) (segs : List Segment) (leg : Leg) where
+  pub step-end : (kept : Step) (i r : ℕ) → r ≡ 0 → stepIn ev segs leg kept i r ≡ kept
   unfolding stepIn
-  step-end kept i r e = ap (stepIn k segs leg kept i) e
+  step-end kept i r e = ap (stepIn ev segs leg kept i) e
 
-  pub step-turn : (kept next : Step) (i n : ℕ) → i < n → next ≡ look k leg kept (seg segs i) i
-      → stepIn k segs leg kept i (n - i) ≡ stepIn k segs leg next (placeAfter next i n) (n - placeAfter next i n)
+  pub step-turn : (kept next : Step) (i n : ℕ) → i < n → next ≡ look ev leg kept (seg segs i) i
+      → stepIn ev segs leg kept i (n - i) ≡ stepIn ev segs leg next (placeAfter next i n) (n - placeAfter next i n)
   unfolding stepIn
   step-turn kept next i n h e =
       let left : n - i ≡ suc (n - (i + 1)) = omega arith in
-      ap (stepIn k segs leg kept i) left
-      ∙ ap (λ (x : Step). cond (isEnd x) x (stepIn k segs leg x (suc i) (n - (i + 1)))) (sym e)
+      ap (stepIn ev segs leg kept i) left
+      ∙ ap (λ (x : Step). cond (isEnd x) x (stepIn ev segs leg x (suc i) (n - (i + 1)))) (sym e)
       ∙ go (isEnd next)
     where
-      go : (b : Bool) → cond b next (stepIn k segs leg next (suc i) (n - (i + 1))) ≡ stepIn k segs leg next (cond b n (i + 1)) (n - cond b n (i + 1))
+      go : (b : Bool) → cond b next (stepIn ev segs leg next (suc i) (n - (i + 1))) ≡ stepIn ev segs leg next (cond b n (i + 1)) (n - cond b n (i + 1))
       go true = sym (step-end next n (n - n) (omega arith))
-      go false = ap (λ (j : ℕ). stepIn k segs leg next j (n - (i + 1))) (sym (add-one i))
+      go false = ap (λ (j : ℕ). stepIn ev segs leg next j (n - (i + 1))) (sym (add-one i))
 
-  pub step-from : (n : ℕ) → stepFrom k segs n leg ≡ stepIn k segs leg Blocked 0 n
+  pub step-from : (n : ℕ) → stepFrom ev segs n leg ≡ stepIn ev segs leg Blocked 0 n
   unfolding stepFrom
   step-from n = refl

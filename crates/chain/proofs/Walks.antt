@@ -1,19 +1,18 @@
 -- Laws of the walk: of `advance`, one for each way through the code, and of `walkFrom`, its end and a step. Assumes nothing.
-use mathlib.Core.Path.{_≡_, refl, sym, ap, _∙_}
+use mathlib.Core.Path.{_≡_, ap, _∙_}
 use mathlib.Core.Bool.{Bool, true, false, cond}
 use mathlib.Core.List.{List}
 use Prim.Native.Nat.{ℕ, suc}
 use Rattle.frame.specs.declared.State.{State}
 use Rattle.segment.specs.declared.Segment.{Segment}
-use Rattle.segment.specs.declared.Evaluated.{Evaluated}
 use Rattle.segment.specs.declared.Evaluated.the-variants as evaluation
 use Rattle.chain.specs.declared.Leg.{Leg}
 use Rattle.chain.specs.declared.Hop.{Hop}
 use Rattle.chain.specs.declared.Step.{Step}
-use Rattle.chain.specs.declared.Step.the-variants.{Blocked, Kept, Home, Refused}
+use Rattle.chain.specs.declared.Step.the-variants.{Kept}
 use Rattle.chain.specs.declared.Next.{Next}
 use Rattle.chain.specs.declared.Next.the-variants.{Ended, Onward}
-use Rattle.chain.specs.Step.{stepFrom}
+use Rattle.chain.specs.Step.{Evaluation, stepFrom}
 use Rattle.chain.specs.Walk.{chainLimit, noCoverage, onward, returns, advance, follow, walkFrom, isHome, toZero}
 
 -- two legs are equal by their fields
@@ -26,23 +25,23 @@ pub advance-kept : (leg : Leg) (step : Step) (hop : Hop) (b : Bool) → step ≡
 advance-kept leg step hop b e r =
     ap (advance leg) e ∙ ap (λ (x : Bool). cond x (Ended (noCoverage (leg .start))) (Onward (onward leg hop))) r
 
-module _ (k : List ℕ) (segs : List Segment) (n : ℕ) (leg : Leg) where
+module _ (ev : Evaluation) (segs : List Segment) (n : ℕ) (leg : Leg) where
   -- no step is left
-  pub walk-end : (left : ℕ) → left ≡ 0 → walkFrom k segs n leg left ≡ noCoverage (leg .start)
+  pub walk-end : (left : ℕ) → left ≡ 0 → walkFrom ev segs n leg left ≡ noCoverage (leg .start)
   unfolding walkFrom
-  walk-end left e = ap (walkFrom k segs n leg) e
+  walk-end left e = ap (walkFrom ev segs n leg) e
 
   -- a step, whatever it leads to
-  pub walk-step : (left less : ℕ) (next : Next) → left ≡ suc less → advance leg (stepFrom k segs n leg) ≡ next
-      → walkFrom k segs n leg left ≡ follow (λ on. walkFrom k segs n on less) next
+  pub walk-step : (left less : ℕ) (next : Next) → left ≡ suc less → advance leg (stepFrom ev segs n leg) ≡ next
+      → walkFrom ev segs n leg left ≡ follow (λ on. walkFrom ev segs n on less) next
   unfolding walkFrom
-  walk-step left less next e h = ap (walkFrom k segs n leg) e ∙ ap (follow (λ on. walkFrom k segs n on less)) h
+  walk-step left less next e h = ap (walkFrom ev segs n leg) e ∙ ap (follow (λ on. walkFrom ev segs n on less)) h
 
   -- body 0 takes no step, and any other walks
-  pub zero-home : isHome leg ≡ true → toZero k segs n leg ≡ evaluation.State (leg .total)
+  pub zero-home : isHome leg ≡ true → toZero ev segs n leg ≡ evaluation.State (leg .total)
   unfolding toZero
-  zero-home e = ap (λ (b : Bool). cond b (evaluation.State (leg .total)) (walkFrom k segs n leg chainLimit)) e
+  zero-home e = ap (λ (b : Bool). cond b (evaluation.State (leg .total)) (walkFrom ev segs n leg chainLimit)) e
 
-  pub zero-walk : isHome leg ≡ false → toZero k segs n leg ≡ walkFrom k segs n leg chainLimit
+  pub zero-walk : isHome leg ≡ false → toZero ev segs n leg ≡ walkFrom ev segs n leg chainLimit
   unfolding toZero
-  zero-walk e = ap (λ (b : Bool). cond b (evaluation.State (leg .total)) (walkFrom k segs n leg chainLimit)) e
+  zero-walk e = ap (λ (b : Bool). cond b (evaluation.State (leg .total)) (walkFrom ev segs n leg chainLimit)) e

@@ -1,3 +1,5 @@
 -- The definitions that the contracts of `chain` cite.
 pub mod Step
 pub mod Walk
+pub mod When
+pub mod Touched

@@ -3,18 +3,20 @@ use Prim.Native.Nat.{ℕ, zero, suc, _+_}
 use mathlib.Core.Bool.{Bool, true, false, cond, _&&_}
 use mathlib.Core.List.{List}
 use lib.IntN.{pos}
+use lib.Ieee.{Float}
 use Rattle.bits.specs.Same.{sameZ}
 use Rattle.frame.specs.declared.State.{State}
-use Rattle.refusal.specs.declared.Refusal.{Refusal}
-use Rattle.daf.specs.declared.Family.the-variants.{Spk}
 use Rattle.segment.specs.declared.Segment.{Segment}
 use Rattle.segment.specs.declared.Evaluated.{Evaluated}
 use Rattle.segment.specs.declared.Evaluated.the-variants as evaluation
-use Rattle.segment.specs.Evaluating.{evaluated}
 use Rattle.table.specs.Segments.{isCovering, seg}
 use Rattle.chain.specs.declared.Leg.{Leg}
 use Rattle.chain.specs.declared.Step.{Step}
 use Rattle.chain.specs.declared.Step.the-variants.{Blocked, Kept, Home, Refused}
+
+-- An evaluation of segments by their numbers at an epoch: `evaluated Spk k` for a kernel k.
+abbrev pub Evaluation : Type 0
+Evaluation = Segment → ℕ → Float → Evaluated
 
 -- The segment's target is the current body, and it covers the epoch.
 abbrev pub leaves : Segment → Leg → Bool
@@ -41,8 +43,8 @@ seen kept s (evaluation.State x) = met kept s x
 seen kept s (evaluation.Refused r) = Refused r
 
 -- The scan with segment i: each covering segment of the current body is evaluated, the others are passed over.
-unfoldable pub look : List ℕ → Leg → Step → Segment → ℕ → Step
-look k leg kept s i = cond (leaves s leg) (seen kept s (evaluated Spk k s i (leg .et))) kept
+unfoldable pub look : Evaluation → Leg → Step → Segment → ℕ → Step
+look ev leg kept s i = cond (leaves s leg) (seen kept s (ev s i (leg .et))) kept
 
 -- A segment whose center is 0 and a refusal end the scan.
 abbrev pub isEnd : Step → Bool
@@ -57,13 +59,13 @@ placeAfter step i n = cond (isEnd step) n (i + 1)
 
 -- The scan goes on over r segments from number i on. There is one recursive call: with one in each arm of a `cond` a closed case
 -- would take 2 ^ r steps.
-unfoldable pub stepIn : List ℕ → List Segment → Leg → Step → ℕ → ℕ → Step
-stepIn k segs leg kept i zero = kept
-stepIn k segs leg kept i (suc r) =
-    let next = look k leg kept (seg segs i) i in
-    let rest = stepIn k segs leg next (suc i) r in
+unfoldable pub stepIn : Evaluation → List Segment → Leg → Step → ℕ → ℕ → Step
+stepIn ev segs leg kept i zero = kept
+stepIn ev segs leg kept i (suc r) =
+    let next = look ev leg kept (seg segs i) i in
+    let rest = stepIn ev segs leg next (suc i) r in
     cond (isEnd next) next rest
 
 -- The step from a leg's body over the first n segments, in file order.
-unfoldable pub stepFrom : List ℕ → List Segment → ℕ → Leg → Step
-stepFrom k segs n leg = stepIn k segs leg Blocked 0 n
+unfoldable pub stepFrom : Evaluation → List Segment → ℕ → Leg → Step
+stepFrom ev segs n leg = stepIn ev segs leg Blocked 0 n

@@ -15,7 +15,7 @@ use Rattle.chain.specs.declared.Step.{Step}
 use Rattle.chain.specs.declared.Step.the-variants.{Blocked, Kept, Home, Refused}
 use Rattle.chain.specs.declared.Next.{Next}
 use Rattle.chain.specs.declared.Next.the-variants.{Ended, Onward}
-use Rattle.chain.specs.Step.{stepFrom}
+use Rattle.chain.specs.Step.{Evaluation, stepFrom}
 
 -- The most steps of a walk.
 abbrev pub chainLimit : ℕ
@@ -46,14 +46,14 @@ follow go (Ended e) = e
 follow go (Onward leg) = go leg
 
 -- A walk of at most so many steps. None left without body 0 is 11 for the starting body.
-unfoldable pub walkFrom : List ℕ → List Segment → ℕ → Leg → ℕ → Evaluated
-walkFrom k segs n leg zero = noCoverage (leg .start)
-walkFrom k segs n leg (suc left) = follow (λ on. walkFrom k segs n on left) (advance leg (stepFrom k segs n leg))
+unfoldable pub walkFrom : Evaluation → List Segment → ℕ → Leg → ℕ → Evaluated
+walkFrom ev segs n leg zero = noCoverage (leg .start)
+walkFrom ev segs n leg (suc left) = follow (λ on. walkFrom ev segs n on left) (advance leg (stepFrom ev segs n leg))
 
 -- The leg's body is body 0.
 abbrev pub isHome : Leg → Bool
 isHome leg = sameZ (leg .body) (pos 0)
 
 -- The state of a leg's body about body 0. Body 0 itself takes no step.
-unfoldable pub toZero : List ℕ → List Segment → ℕ → Leg → Evaluated
-toZero k segs n leg = cond (isHome leg) (evaluation.State (leg .total)) (walkFrom k segs n leg chainLimit)
+unfoldable pub toZero : Evaluation → List Segment → ℕ → Leg → Evaluated
+toZero ev segs n leg = cond (isHome leg) (evaluation.State (leg .total)) (walkFrom ev segs n leg chainLimit)

@@ -1,8 +1,10 @@
 // The walk towards body 0 that a chained answer takes: `state_wrt_ssb` and `step_toward_ssb` of the Rust.
 ghost use mathlib.Core.Path.{_≡_};
 ghost use Prim.Native.Nat.{_≤_, _<_};
+ghost use Rattle.daf.specs.declared.Family.the-variants.{Spk};
+ghost use Rattle.segment.specs.Evaluating.{evaluated};
 ghost use Rattle.table.specs.Places.{tableLimit};
-ghost use Rattle.chain.specs.Step.{leaves, goesHome, met, seen, look, placeAfter, stepFrom};
+ghost use Rattle.chain.specs.Step.{leaves, goesHome, met, look, placeAfter, stepFrom};
 ghost use Rattle.chain.specs.Walk.{noCoverage, onward, returns, advance, walkFrom, isHome, toZero};
 use daf::Family;
 use frame::State;
@@ -89,7 +91,7 @@ impl Step {
 // The scan with segment i: passed over, or evaluated.
 fn look(kernel: &[u8], leg: Leg, kept: Step, s: Segment, i: usize) -> Step
     requires { ⌜ i < tableLimit ⌝ }
-    ensures { λ r. ⌜ r ≡ look (now (kernel .entry)) leg kept s i ⌝ }
+    ensures { λ r. ⌜ r ≡ look (evaluated Spk (now (kernel .entry))) leg kept s i ⌝ }
 {
     if !leaves(s, leg) {
         return kept;
@@ -104,7 +106,7 @@ fn look(kernel: &[u8], leg: Leg, kept: Step, s: Segment, i: usize) -> Step
 // One step towards body 0: the scan of the table in file order.
 fn step_toward_ssb(kernel: &[u8], table: Table, leg: Leg) -> Step
     requires { ⌜ table .count ≤ tableLimit ⌝ }
-    ensures { λ r. ⌜ r ≡ stepFrom (now (kernel .entry)) (table .segments) (table .count) leg ⌝ }
+    ensures { λ r. ⌜ r ≡ stepFrom (evaluated Spk (now (kernel .entry))) (table .segments) (table .count) leg ⌝ }
 {
     let n = table.count;
     let mut kept = Step::Blocked;
@@ -171,7 +173,7 @@ fn advance(leg: Leg, step: Step) -> Next
 // A step from a leg on.
 fn next_leg(kernel: &[u8], table: Table, leg: Leg) -> Next
     requires { ⌜ table .count ≤ tableLimit ⌝ }
-    ensures { λ r. ⌜ r ≡ advance leg (stepFrom (now (kernel .entry)) (table .segments) (table .count) leg) ⌝ }
+    ensures { λ r. ⌜ r ≡ advance leg (stepFrom (evaluated Spk (now (kernel .entry))) (table .segments) (table .count) leg) ⌝ }
 {
     advance(leg, step_toward_ssb(kernel, table, leg))
 }
@@ -180,7 +182,7 @@ fn next_leg(kernel: &[u8], table: Table, leg: Leg) -> Next
 // every callee at every need.
 fn walk(kernel: &[u8], table: Table, leg: Leg, left: u32) -> Evaluated
     requires { ⌜ table .count ≤ tableLimit ⌝ }
-    ensures { λ r. ⌜ r ≡ walkFrom (now (kernel .entry)) (table .segments) (table .count) leg left ⌝ }
+    ensures { λ r. ⌜ r ≡ walkFrom (evaluated Spk (now (kernel .entry))) (table .segments) (table .count) leg left ⌝ }
 {
     if left == 0 {
         return no_way(leg);
@@ -202,7 +204,7 @@ fn is_home(leg: Leg) -> bool
 // The state of a leg's body about body 0, which itself takes no step.
 pub fn state_wrt_ssb(kernel: &[u8], table: Table, leg: Leg) -> Evaluated
     requires { ⌜ table .count ≤ tableLimit ⌝ }
-    ensures { λ r. ⌜ r ≡ toZero (now (kernel .entry)) (table .segments) (table .count) leg ⌝ }
+    ensures { λ r. ⌜ r ≡ toZero (evaluated Spk (now (kernel .entry))) (table .segments) (table .count) leg ⌝ }
 {
     if is_home(leg) {
         let total = leg.total;

@@ -6,10 +6,9 @@ use mathlib.Core.List.{List}
 use native.Mathlib.Omega.{arith}
 use lib.Ieee.{Float}
 use Rattle.bits.specs.F64.{_⊕_, _⊖_, _⊗_, two, one}
-use Rattle.bits.specs.Bytes.{every}
 use Rattle.cheby.specs.declared.Triple.{Triple}
 use Rattle.cheby.specs.Cheby.{T, T′, seriesAt, slopeAt}
-use Rattle.cheby.specs.Steps.{each, none, values, slopes, scaled, added}
+use Rattle.cheby.specs.Steps.{each, none, slopes, scaled, added}
 
 module _ (s : Float) (j : ℕ) where
   -- the next polynomial

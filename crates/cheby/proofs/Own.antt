@@ -7,8 +7,8 @@ use mathlib.Core.List.{List}
 use native.Mathlib.Omega.{arith}
 use lib.Ieee.{Float, eq}
 use Rattle.bits.specs.F64.{_⊕_, _⊖_, _⊗_, _⊘_, +0, one, sumTo}
-use Rattle.bits.specs.Bytes.{doubleAt, every}
-use Rattle.cheby.specs.Cheby.{T, T′, seriesAt, slopeAt, coefficient, valueOf, rateOf, refusedAt, record2, record3, type2Of, type3Of}
+use Rattle.bits.specs.Bytes.{doubleAt}
+use Rattle.cheby.specs.Cheby.{T, T′, seriesAt, slopeAt, coefficient, valueOf, rateOf, unlessZero, record2, record3, type2Of, type3Of}
 use Rattle.bits.proofs.Agree.{Agree}
 
 -- sums whose terms agree
@@ -49,7 +49,7 @@ module _ (r r′ : ℕ → Float) (n : ℕ) (et : Float) {m : ℕ} (a : Agree r 
   record2-agree : 2 + 3 * n ≤ m → record2 r n et ≡ record2 r′ n et
   unfolding record2
   record2-agree h = λ i.
-      refusedAt (eq (a .same 1 (omega arith) i) +0) (record {
+      unlessZero (eq (a .same 1 (omega arith) i) +0) (record {
         x = value-agree 0 (omega arith) i;
         y = value-agree 1 (omega arith) i;
         z = value-agree 2 (omega arith) i;

@@ -1,17 +1,18 @@
--- From the series at their bytes to the records of the definitions.
+-- From the series at their bytes to the records of the definitions; a record's number; and exactly when a type 2 record is refused.
 -- Assumes nothing.
-use Prim.Native.Nat.{ℕ, _+_, _*_}
-use mathlib.Core.Path.{_≡_, ap, ap₂}
-use mathlib.Core.Bool.{true, false}
+use Prim.Native.Nat.{ℕ, _+_, _*_, _≤_, _<_}
+use mathlib.Core.Path.{_≡_, refl, ap, ap₂}
+use mathlib.Core.Bool.{Bool, true, false}
 use mathlib.Core.List.{List}
 use native.Mathlib.Omega.{arith}
 use lib.Ieee.{Float, eq}
 use Rattle.bits.specs.F64.{_⊖_, _⊗_, _⊘_, +0, one}
 use Rattle.bits.specs.Bytes.{doubleAt, every}
+use Rattle.bits.proofs.Whole.{record-lt}
 use Rattle.frame.specs.declared.State.{State}
 use Rattle.cheby.specs.declared.Triple.{Triple}
 use Rattle.cheby.specs.declared.Cheby.the-variants.{Value, NoRadius}
-use Rattle.cheby.specs.Cheby.{seriesAt, slopeAt, coefficient, argument, valueOf, rateOf, record2, record3, type2Of, type3Of}
+use Rattle.cheby.specs.Cheby.{seriesAt, slopeAt, coefficient, argument, valueOf, rateOf, unlessZero, record2, record3, recordFor, type2Of, type3Of}
 use Rattle.cheby.specs.Steps.{values, slopes, scaled}
 
 -- a state of a position and a velocity
@@ -74,3 +75,24 @@ module _ (kernel : List ℕ) (p n : ℕ) where
       vy = value-at 4 (p + 16 + 24 * n + 8 * n) (omega arith) i;
       vz = value-at 5 (p + 16 + 24 * n + 16 * n) (omega arith) i;
     })
+
+-- ---- for other crates
+
+-- a record's number is below the count of records
+pub record-below : (init intlen et : Float) (n : ℕ) → 1 ≤ n → recordFor init intlen et n < n
+unfolding recordFor
+record-below init intlen et n h = record-lt ((et ⊖ init) ⊘ intlen) n h
+
+-- a test passed where it gives NoRadius
+refused-test : (b : Bool) (a : State) → unlessZero b a ≡ NoRadius → b ≡ true
+refused-test true a e = refl
+refused-test false a e = let z : _≡_ {A = ℕ} 0 1 = cc in absurd (omega arith)
+
+-- a type 2 record is refused where its RADIUS is +0 or -0, and nowhere else
+pub refused-where : (kernel : List ℕ) (p n : ℕ) (et : Float) → eq (doubleAt kernel (p + 8)) +0 ≡ true → type2Of kernel p n et ≡ NoRadius
+unfolding record2
+refused-where kernel p n et t = rw t
+
+pub refused-only : (kernel : List ℕ) (p n : ℕ) (et : Float) → type2Of kernel p n et ≡ NoRadius → eq (doubleAt kernel (p + 8)) +0 ≡ true
+unfolding record2
+refused-only kernel p n et e = refused-test (eq (doubleAt kernel (p + 8)) +0) _ e

@@ -59,14 +59,15 @@ valueOf r n et c = seriesAt (coefficient r n c) n (argument r et)
 unfoldable pub rateOf : (ℕ → Float) → ℕ → Float → ℕ → Float
 rateOf r n et c = slopeAt (coefficient r n c) n (argument r et) ⊗ (one ⊘ r 1)
 
--- Type 2: three series and their derivatives. A RADIUS of +0 or -0 is refused.
-abbrev pub refusedAt : Bool → State → Cheby
-refusedAt true a = NoRadius
-refusedAt false a = Value a
+-- A state, unless RADIUS is zero.
+abbrev pub unlessZero : Bool → State → Cheby
+unlessZero true a = NoRadius
+unlessZero false a = Value a
 
+-- Type 2: three series and their derivatives. A RADIUS of +0 or -0 is refused.
 unfoldable pub record2 : (ℕ → Float) → ℕ → Float → Cheby
 record2 r n et =
-    refusedAt (eq (r 1) +0)
+    unlessZero (eq (r 1) +0)
     (record {
       x = valueOf r n et 0;
       y = valueOf r n et 1;

@@ -7,7 +7,6 @@ use lib.Ieee.{Float, isNan}
 use Rattle.bits.specs.F64.{_⊕_, _⊗_, +0}
 use Rattle.bits.specs.Bytes.{every}
 use Rattle.cheby.specs.declared.Triple.{Triple}
-use Rattle.cheby.specs.declared.Both.{Both}
 use Rattle.cheby.specs.Cheby.{seriesAt, slopeAt}
 
 -- Whether none of the first m of f is a NaN.

@@ -1,4 +1,4 @@
--- The numbers of document 01 to hold against, for windows, Lagrange and Hermite: antt computes each.
+-- The numbers of document 01 to hold against, for windows and Lagrange: antt computes each.
 -- Assumes nothing.
 use mathlib.Core.Path.{_≡_, refl}
 use mathlib.Core.List.{List, [], _∷_, map}
@@ -7,7 +7,6 @@ use lib.Ieee.{Float, add, sub, mul, div, eq, le, ofBits, ofInt}
 use Rattle.bits.specs.F64.{at, whole}
 use Rattle.interp.specs.Window.{leftOf, windowSize, windowStart}
 use Rattle.interp.specs.Lagrange.{lagrangeOf}
-use Rattle.interp.specs.Hermite.{hermiteOf}
 
 -- Where the window around l starts, of N 10 and degree d.
 unfoldable pub startOf : ℕ → ℕ → ℕ
@@ -42,8 +41,3 @@ epochs = at (whole 0 ∷ whole 2 ∷ [])
 pub case-lagrange : map (lagrangeOf epochs (at (whole 10 ∷ whole 20 ∷ [])) 2) (whole 1 ∷ whole 2 ∷ []) ≡ whole 15 ∷ whole 20 ∷ []
 unfolding lagrangeOf add sub mul div eq ofBits ofInt
 case-lagrange = refl
-
--- Values 0 and 8, slopes 0 and 12 at 1: the value 1 and the derivative 3.
-pub case-hermite : hermiteOf epochs (at (whole 0 ∷ whole 8 ∷ [])) (at (whole 0 ∷ whole 12 ∷ [])) 2 (whole 1) ≡ record { value = whole 1; slope = whole 3 }
-unfolding hermiteOf add sub mul div ofBits ofInt
-case-hermite = refl

@@ -4,6 +4,5 @@ pub mod Greatest
 pub mod Blend
 pub mod Same
 pub mod Window
-pub mod Table
 pub mod Own
 pub mod Cases

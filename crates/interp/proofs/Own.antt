@@ -1,48 +1,26 @@
 -- Types 9 and 13 read nothing but their own segment: its n epochs, and the states of the window.
 -- Assumes nothing.
 use Prim.Native.Nat.{ℕ, _+_, _*_, _≤_, _<_}
-use mathlib.Core.Bool.{Bool}
 use mathlib.Core.List.{List}
 use mathlib.Core.Path.{_≡_, refl, ap, sym, _∙_}
 use native.Mathlib.Omega.{arith}
 use lib.Ieee.{Float, le}
 use Rattle.bits.specs.Bytes.{doubleAt, every}
 use Rattle.bits.proofs.Agree.{Agree}
-use Rattle.frame.specs.declared.State.{State}
-use Rattle.interp.specs.declared.hermite.Point.{Point}
-use Rattle.interp.specs.Window.{leftAt, leftOf, windowSize}
+use Rattle.hermite.proofs.Own.{column-same, hermite-own}
+use Rattle.interp.specs.Window.{leftAt, windowSize}
 use Rattle.interp.specs.Lagrange.{lagrangeOf}
-use Rattle.interp.specs.Hermite.{hermiteOf}
-use Rattle.interp.specs.Discrete.{axisAt, windowAt, lagrangeAt, hermiteAt, type9Of, type13Of}
-use Rattle.interp.proofs.Same.{left-same, lagrange-same, hermite-same, six-same}
-use Rattle.interp.proofs.Window.{size-some, size-most, window-inside}
+use Rattle.interp.specs.Discrete.{windowAt, lagrangeAt, type9Of, type13Of}
+use Rattle.interp.proofs.Same.{left-same, lagrange-same, six-same}
+use Rattle.interp.proofs.Window.{size-some, window-inside}
 
--- a number of a state is a number of the run of doubles from byte q on, the six of a state in a row
-in-row : (s : List ℕ) (q k b j : ℕ) → b ≡ q + 8 * k → every 48 s b j ≡ every 8 s q (k + 6 * j)
-in-row s q k b j e =
-    let there : b + 48 * j ≡ q + 8 * (k + 6 * j) = omega arith in
-    ap (doubleAt s) there
-
--- ---- over c states from byte q on and their epochs from byte e on
-
-module _ (s s′ : List ℕ) (q e c : ℕ) (x : Float) (epochs : Agree (every 8 s e) (every 8 s′ e) c) (states : Agree (every 8 s q) (every 8 s′ q) (6 * c)) where
-  column-same : (k b : ℕ) → k < 6 → b ≡ q + 8 * k → Agree (every 48 s b) (every 48 s′ b) c
-  column-same k b l t = record { same = λ j h. in-row s q k b j t ∙ states .same (k + 6 * j) (omega arith) ∙ sym (in-row s′ q k b j t) }
-
-  pub lagrange-own : lagrangeAt s q e c x ≡ lagrangeAt s′ q e c x
-  unfolding lagrangeAt
-  lagrange-own =
-      six-same (λ b. lagrangeOf (every 8 s e) (every 48 s b) c x) (λ b. lagrangeOf (every 8 s′ e) (every 48 s′ b) c x) q
-      (λ k b l t. lagrange-same (every 8 s e) (every 8 s′ e) (every 48 s b) (every 48 s′ b) c x epochs (column-same k b l t))
-
-  axis-own : 1 ≤ c → (k b : ℕ) → k < 3 → b ≡ q + 8 * k → axisAt s b e c x ≡ axisAt s′ b e c x
-  axis-own p k b l t =
-      hermite-same (every 8 s e) (every 8 s′ e) (every 48 s b) (every 48 s′ b) (every 48 s (b + 24)) (every 48 s′ (b + 24)) c x epochs
-      (column-same k b (omega arith) t) (column-same (k + 3) (b + 24) (omega arith) (omega arith)) p
-
-  pub hermite-own : 1 ≤ c → hermiteAt s q e c x ≡ hermiteAt s′ q e c x
-  unfolding hermiteAt
-  hermite-own p = rw (axis-own p 0 q (omega arith) (omega arith), axis-own p 1 (q + 8) (omega arith) refl, axis-own p 2 (q + 16) (omega arith) refl)
+-- Six numbers by Lagrange depend on nothing in the kernel but the c states from byte q on and their epochs from byte e on.
+pub lagrange-own : (s s′ : List ℕ) (q e c : ℕ) (x : Float) → Agree (every 8 s e) (every 8 s′ e) c → Agree (every 8 s q) (every 8 s′ q) (6 * c)
+    → lagrangeAt s q e c x ≡ lagrangeAt s′ q e c x
+unfolding lagrangeAt
+lagrange-own s s′ q e c x epochs states =
+    six-same (λ b. lagrangeOf (every 8 s e) (every 48 s b) c x) (λ b. lagrangeOf (every 8 s′ e) (every 48 s′ b) c x) q
+    (λ k b l t. lagrange-same (every 8 s e) (every 8 s′ e) (every 48 s b) (every 48 s′ b) c x epochs (column-same s s′ q c states k b l t))
 
 -- ---- a segment of n states from byte p on and their epochs behind them
 

@@ -1,6 +1,6 @@
--- What the definitions read: the search the n epochs, and the two interpolations the first n nodes, values and slopes.
+-- What the definitions read: the search the n epochs, and Lagrange the first n nodes and values.
 -- Assumes nothing.
-use Prim.Native.Nat.{ℕ, zero, suc, _+_, _-_, _*_, _/_, _≤_, _<_}
+use Prim.Native.Nat.{ℕ, zero, suc, _+_, _*_, _/_, _≤_, _<_}
 use mathlib.Core.Bool.{Bool, true, false, cond}
 use mathlib.Core.List.{List}
 use mathlib.Core.Path.{_≡_, refl, ap, ap₂, sym, _∙_}
@@ -13,8 +13,7 @@ use Rattle.bits.specs.F64.{_⊗_, _⊘_}
 use Rattle.bits.proofs.Agree.{Agree, sum-agree}
 use Rattle.interp.specs.Window.{bisect, leftOf}
 use Rattle.interp.specs.Lagrange.{nodeFrom, nodeOf, factors, weightOf, shareOf, blendOf, lagrangeOf}
-use Rattle.interp.specs.Hermite.{doubled, difference, product, product′, valueTo, slopeTo, tableOf, hermiteOf}
-use Rattle.interp.specs.Discrete.{six, axisAt, lagrangeAt}
+use Rattle.interp.specs.Discrete.{six, lagrangeAt}
 use Rattle.interp.proofs.Search.{bisect-end}
 use Rattle.interp.proofs.Blend.{at-node, off-node}
 
@@ -70,54 +69,6 @@ lagrange-same f f′ g g′ n x e e′ =
     (sum-agree (λ i. shareOf f n x i ⊗ g i) (λ i. shareOf f′ n x i ⊗ g′ i) n (λ k l. ap₂ (λ (u v : Float). u ⊗ v) (share-same f f′ n x e k l) (e′ .same k l)))
     (sum-agree (shareOf f n x) (shareOf f′ n x) n (share-same f f′ n x e))))
 
--- ---- Hermite, over n doubled nodes
-
-module _ (z z′ g g′ h h′ : ℕ → Float) (n : ℕ) (ez : Agree z z′ (n + n)) (eg : Agree g g′ n) (eh : Agree h h′ n) where
-  difference-same : (k i : ℕ) → i + k < n + n → difference z g h k i ≡ difference z′ g′ h′ k i
-  unfolding difference
-  difference-same zero i l = eg .same (i / 2) (omega arith)
-  difference-same (suc zero) i l =
-      rw (eh .same (i / 2) (omega arith), eg .same ((i + 1) / 2) (omega arith), eg .same (i / 2) (omega arith), ez .same (i + 1) l, ez .same i (omega arith))
-  difference-same (suc (suc k)) i l =
-      let later = difference-same (suc k) (i + 1) (omega arith) in
-      let here = difference-same (suc k) i (omega arith) in
-      rw (later, here, ez .same (i + suc (suc k)) l, ez .same i (omega arith))
-
-  product-same : (x : Float) (k : ℕ) → k ≤ n + n → product z x k ≡ product z′ x k
-  unfolding product
-  product-same x zero l = refl
-  product-same x (suc k) l = let before = product-same x k (omega arith) in rw (before, ez .same k l)
-
-  product′-same : (x : Float) (k : ℕ) → k ≤ n + n → product′ z x k ≡ product′ z′ x k
-  unfolding product′
-  product′-same x zero l = refl
-  product′-same x (suc k) l =
-      let before = product′-same x k (omega arith) in
-      rw (before, product-same x k (omega arith), ez .same k l)
-
-  value-same : (x : Float) (k : ℕ) → k < n + n → valueTo (λ j. difference z g h j 0) z x k ≡ valueTo (λ j. difference z′ g′ h′ j 0) z′ x k
-  unfolding valueTo
-  value-same x zero l = difference-same 0 0 (omega arith)
-  value-same x (suc k) l =
-      let before = value-same x k (omega arith) in
-      rw (before, difference-same (suc k) 0 (omega arith), product-same x (suc k) (omega arith))
-
-  slope-same : (x : Float) (k : ℕ) → k < n + n → slopeTo (λ j. difference z g h j 0) z x k ≡ slopeTo (λ j. difference z′ g′ h′ j 0) z′ x k
-  unfolding slopeTo
-  slope-same x zero l = refl
-  slope-same x (suc k) l =
-      let before = slope-same x k (omega arith) in
-      rw (before, difference-same (suc k) 0 (omega arith), product′-same x (suc k) (omega arith))
-
-  pub table-same : (x : Float) → 1 ≤ n → tableOf z g h n x ≡ tableOf z′ g′ h′ n x
-  unfolding tableOf
-  table-same x p = rw (value-same x (n + n - 1) (omega arith), slope-same x (n + n - 1) (omega arith))
-
-pub hermite-same : (f f′ g g′ h h′ : ℕ → Float) (n : ℕ) (x : Float) → Agree f f′ n → Agree g g′ n → Agree h h′ n → 1 ≤ n → hermiteOf f g h n x ≡ hermiteOf f′ g′ h′ n x
-unfolding hermiteOf
-hermite-same f f′ g g′ h h′ n x ef eg eh p =
-    table-same (doubled f) (doubled f′) g g′ h h′ n (record { same = λ i l. ef .same (i / 2) (omega arith) }) eg eh x p
-
 -- ---- the six numbers of a state
 
 -- Two rules for a number that agree at the six bytes of a state give the same state.
@@ -152,10 +103,3 @@ module _ (s : List ℕ) (q e c : ℕ) (x : Float) (f : ℕ → Float) (read : Ag
   blend-at l =
       six-same (λ b. blendOf f (every 48 s b) c x) (λ b. lagrangeOf (every 8 s e) (every 48 s b) c x) q
       (λ k b h t. off-node f c x found l (every 48 s b) ∙ from-kernel (every 48 s b))
-
--- the table over doubled nodes that were read: one axis
-pub axis-from-kernel : (s : List ℕ) (e c : ℕ) (x : Float) (z : ℕ → Float) → Agree z (doubled (every 8 s e)) (c + c) → 1 ≤ c
-    → (b : ℕ) → tableOf z (every 48 s b) (every 48 s (b + 24)) c x ≡ axisAt s b e c x
-unfolding hermiteOf
-axis-from-kernel s e c x z read p b =
-    table-same z (doubled (every 8 s e)) (every 48 s b) (every 48 s b) (every 48 s (b + 24)) (every 48 s (b + 24)) c read (record { same = λ j h. refl }) (record { same = λ j h. refl }) x p

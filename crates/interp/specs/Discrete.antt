@@ -2,13 +2,12 @@
 use Prim.Native.Nat.{ℕ, _+_, _*_}
 use mathlib.Core.List.{List}
 use lib.Ieee.{Float}
-use Rattle.bits.specs.F64.{_⊕_, _⊗_, _⊘_, at}
+use Rattle.bits.specs.F64.{_⊕_, _⊗_, _⊘_}
 use Rattle.bits.specs.Bytes.{every}
 use Rattle.frame.specs.declared.State.{State}
-use Rattle.interp.specs.declared.hermite.Point.{Point}
+use Rattle.hermite.specs.Axes.{hermiteAt}
 use Rattle.interp.specs.Window.{leftAt, windowSize, windowStart}
 use Rattle.interp.specs.Lagrange.{lagrangeOf}
-use Rattle.interp.specs.Hermite.{difference, tableOf, hermiteOf}
 
 -- The six numbers of a state, position and then velocity, where f gives the number that stands at a byte of the states.
 abbrev pub six : (ℕ → Float) → ℕ → State
@@ -22,18 +21,6 @@ windowAt s p n d et = windowStart (leftAt s (p + 48 * n) n et) (windowSize d n) 
 unfoldable pub lagrangeAt : List ℕ → ℕ → ℕ → ℕ → Float → State
 lagrangeAt s q e c et = six (λ b. lagrangeOf (every 8 s e) (every 48 s b) c et) q
 
--- One axis by Hermite: its positions stand at byte b and every 48 bytes after, its velocities 24 bytes behind them.
-abbrev pub axisAt : List ℕ → ℕ → ℕ → ℕ → Float → Point
-axisAt s b e c et = hermiteOf (every 8 s e) (every 48 s b) (every 48 s (b + 24)) c et
-
--- Six numbers by Hermite over c states from byte q on and their epochs from byte e on: an axis' position is its value, its velocity the derivative.
-unfoldable pub hermiteAt : List ℕ → ℕ → ℕ → ℕ → Float → State
-hermiteAt s q e c et =
-    let a = axisAt s q e c et in
-    let b = axisAt s (q + 8) e c et in
-    let d = axisAt s (q + 16) e c et in
-    record { x = a .value; y = b .value; z = d .value; vx = a .slope; vy = b .slope; vz = d .slope }
-
 -- Type 9 at et: n states from byte p on, of degree d.
 unfoldable pub type9Of : List ℕ → ℕ → ℕ → ℕ → Float → State
 type9Of s p n d et = let w = windowAt s p n d et in lagrangeAt s (p + 48 * w) (p + 48 * n + 8 * w) (windowSize d n) et
@@ -43,14 +30,6 @@ unfoldable pub type13Of : List ℕ → ℕ → ℕ → ℕ → Float → State
 type13Of s p n d et = let w = windowAt s p n d et in hermiteAt s (p + 48 * w) (p + 48 * n + 8 * w) (windowSize d n) et
 
 -- ---- what the small functions of the code do
-
--- Number i of the column of order k for the axis at byte b, over the doubled nodes in z.
-abbrev pub axisColumn : List ℕ → ℕ → List Float → ℕ → ℕ → Float
-axisColumn s b z k i = difference (at z) (every 48 s b) (every 48 s (b + 24)) k i
-
--- The axis at byte b over the c doubled nodes in z.
-abbrev pub axisTable : List ℕ → ℕ → List Float → ℕ → Float → Point
-axisTable s b z c x = tableOf (at z) (every 48 s b) (every 48 s (b + 24)) c x
 
 -- A share of each number of y, added to that of sum.
 abbrev pub withShare : State → Float → State → State

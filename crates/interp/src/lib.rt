@@ -1,10 +1,8 @@
-// Interpolation of discrete states, types 9 and 13: the search for an epoch, the window around it, Lagrange and Hermite.
+// Types 9 and 13: the search for an epoch, the window around it, Lagrange, and Hermite of the crate `hermite`.
 
-mod hermite;
 mod lagrange;
 
 use frame::State;
-use hermite::hermite_at;
 use lagrange::lagrange_at;
 ghost use mathlib.Core.Path.{_≡_};
 ghost use Prim.Native.Nat.{_+_, _*_, _-_, _≤_, _<_, min};
@@ -86,5 +84,5 @@ pub fn type13_at(kernel: &[u8], p: usize, n: usize, degree: u64, et: f64) -> Sta
 {
     let c = window_size(degree, n as u64) as usize;
     let w = window_at(kernel, p, n, degree, et);
-    hermite_at(kernel, p + 48 * w, p + 48 * n + 8 * w, c, et)
+    hermite::hermite_at(kernel, p + 48 * w, p + 48 * n + 8 * w, c, et)
 }

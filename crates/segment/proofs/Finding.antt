@@ -1,7 +1,7 @@
 -- What the tests of refusal 9 come to, one law for each way through them. Assumes nothing.
-use Prim.Native.Nat.{ℕ, _≤_, _<_}
-use mathlib.Core.Path.{_≡_, refl, sym, ap, _∙_}
-use mathlib.Core.Bool.{Bool, true, false, cond, _&&_, _||_, true≢false}
+use Prim.Native.Nat.{ℕ}
+use mathlib.Core.Path.{_≡_, refl, ap}
+use mathlib.Core.Bool.{Bool, true, false, cond, true≢false}
 use mathlib.Core.List.{List}
 use lib.Dec.{ltb}
 use lib.IntN.{natAbs}
@@ -11,11 +11,9 @@ use Rattle.segment.specs.Kinds.{formOf, handled, trailerAt, kindWith, ki
 use Rattle.segment.specs.Malformed.{limitNan, misplaced, lengthOf, trailerSize, badTrailer, malformed, found}
 use Rattle.segment.specs.declared.Form.{Form}
 use Rattle.segment.specs.declared.Form.the-variants.{Other, Two, Three, Nine, Thirteen}
-use Rattle.segment.specs.declared.Kind.{Kind}
 use Rattle.segment.specs.declared.Kind.the-variants.{Unsupported}
 use Rattle.segment.specs.declared.Trailer.{Trailer}
 use Rattle.segment.specs.declared.Segment.{Segment}
-use Rattle.segment.specs.declared.Found.{Found}
 use Rattle.segment.specs.declared.Found.the-variants.{Kind as Makes, Malformed as Fails}
 
 -- a form that is not handled makes an unsupported kind

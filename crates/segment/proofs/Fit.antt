@@ -1,5 +1,5 @@
 -- A segment that fits its kernel: what the repeated tests leave. Assumes nothing.
-use Prim.Native.Nat.{ℕ, _+_, _*_, _/_, _≤_, _<_}
+use Prim.Native.Nat.{ℕ, _+_, _*_, _/_, _≤_}
 use mathlib.Core.Path.{_≡_, refl, sym, ap, _∙_, subst}
 use mathlib.Core.Bool.{Bool, true, false, cond, not, _&&_, _||_, true≢false}
 use mathlib.Core.List.{List}
@@ -21,7 +21,6 @@ use Rattle.segment.specs.Evaluating.{unsupported, unfit, evaluated, valu
 use Rattle.segment.specs.declared.Form.{Form}
 use Rattle.segment.specs.declared.Form.the-variants.{Other, Two, Three, Nine, Thirteen}
 use Rattle.segment.specs.declared.Kind.{Kind}
-use Rattle.segment.specs.declared.Kind.the-variants.{Unsupported, Type2, Type3, Type9, Type13}
 use Rattle.segment.specs.declared.Trailer.{Trailer}
 use Rattle.segment.specs.declared.Segment.{Segment}
 use Rattle.segment.specs.declared.Found.the-variants.{Kind as Makes, Malformed as Fails}

@@ -1,12 +1,11 @@
 -- The form of a type, by the tests of its number. Assumes nothing.
-use mathlib.Core.Path.{_≡_, refl}
+use mathlib.Core.Path.{_≡_}
 use mathlib.Core.Bool.{true, false}
 use lib.IntN.{ℤ, pos}
 use Rattle.bits.specs.Same.{sameZ}
 use Rattle.daf.specs.declared.Family.{Family}
 use Rattle.daf.specs.declared.Family.the-variants.{Spk, Pck}
 use Rattle.segment.specs.Kinds.{formOf}
-use Rattle.segment.specs.declared.Form.{Form}
 use Rattle.segment.specs.declared.Form.the-variants.{Other, Two, Three, Nine, Thirteen}
 
 pub form-two : (f : Family) (t : ℤ) → sameZ t (pos 2) ≡ true → Two ≡ formOf f t

@@ -1,14 +1,12 @@
 -- N never runs past the segment: what an evaluation reads lies between the segment's first double and its trailer. Assumes nothing.
-use Prim.Native.Nat.{ℕ, _+_, _-_, _*_, _/_, _≤_, _<_}
-use mathlib.Core.Path.{_≡_, refl, sym, subst}
-use mathlib.Core.Bool.{Bool, true, false, not, _||_, true≢false}
+use Prim.Native.Nat.{ℕ, _+_, _-_, _*_, _≤_}
+use mathlib.Core.Path.{_≡_, sym, subst}
+use mathlib.Core.Bool.{true, false, true≢false}
 use mathlib.Core.List.{List}
 use native.Mathlib.Omega.{arith}
-use lib.Dec.{eqb, ltb}
 use lib.IntN.{natAbs}
 use lib.Ieee.{Float}
-use borrow.Author.Tests.{ltb-false, eqb-true, not-false}
-use Rattle.daf.specs.Addresses.{byteOf, wholeDoubles}
+use Rattle.daf.specs.Addresses.{byteOf}
 use Rattle.daf.specs.declared.Family.{Family}
 use Rattle.cheby.specs.Cheby.{recordFor}
 use Rattle.segment.specs.Kinds.{formOf, handled, trailerAt, kindWith, kindOf}
@@ -20,7 +18,6 @@ use Rattle.segment.specs.declared.Kind.{Kind}
 use Rattle.segment.specs.declared.Kind.the-variants.{Unsupported, Type2, Type3, Type9, Type13}
 use Rattle.segment.specs.declared.Trailer.{Trailer}
 use Rattle.segment.specs.declared.Segment.{Segment}
-use Rattle.segment.proofs.Placed.{Placed}
 use Rattle.segment.proofs.Valued.{record-below, record-ends}
 use Rattle.segment.proofs.Fit.{records-fit, states-fit, own-kind, passed-tests}
 

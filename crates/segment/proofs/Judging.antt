@@ -1,6 +1,6 @@
 -- What a summary comes to, by what the tests of its segment find. Assumes nothing.
 use Prim.Native.Nat.{ℕ}
-use mathlib.Core.Path.{_≡_, refl, sym, ap}
+use mathlib.Core.Path.{_≡_, refl, ap}
 use mathlib.Core.Bool.{Bool, true, false, cond}
 use mathlib.Core.List.{List}
 use native.Mathlib.Omega.{arith}
@@ -9,7 +9,6 @@ use Rattle.daf.specs.declared.Summary.{Summary}
 use Rattle.segment.specs.Kinds.{kindOf}
 use Rattle.segment.specs.Malformed.{malformed, found, segmentWith, judged}
 use Rattle.segment.specs.declared.Kind.{Kind}
-use Rattle.segment.specs.declared.Found.{Found}
 use Rattle.segment.specs.declared.Found.the-variants.{Kind as Makes, Malformed as Fails}
 use Rattle.segment.specs.declared.Judged.{Judged}
 use Rattle.segment.specs.declared.Judged.the-variants.{Accepted, Malformed}

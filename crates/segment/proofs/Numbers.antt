@@ -1,7 +1,7 @@
 -- The arithmetic of the guards: with a factor over the length the product is over it too, and below it the product fits. Assumes nothing.
-use Prim.Native.Nat.{ℕ, zero, suc, _+_, _-_, _*_, _/_, _^_, _≤_, _<_}
+use Prim.Native.Nat.{ℕ, _-_, _*_, _/_, _^_, _≤_, _<_}
 use mathlib.Core.Path.{_≡_, sym, ap, _∙_}
-use native.Mathlib.Nat.{zero-div, mul-div-le, mul-le-mul, mul-le-mul-left, mul-le-mul-right, mul-one, one-mul, le-trans, le-of-eq, le-mul-of-pos-right, mul-comm}
+use native.Mathlib.Nat.{zero-div, mul-div-le, mul-le-mul, le-trans, le-of-eq, le-mul-of-pos-right, mul-comm}
 use native.Mathlib.Omega.{arith}
 use mathlib.Core.Bool.{true, false}
 use lib.Dec.{ltb}

@@ -1,7 +1,7 @@
 -- A segment that the opening accepted fits the same kernel: no evaluation of it is refused with 14. Assumes nothing.
 use Prim.Native.Nat.{ℕ}
-use mathlib.Core.Path.{_≡_, refl, sym, ap, _∙_, subst}
-use mathlib.Core.Bool.{Bool, true, false, cond, not, _&&_, _||_, true≢false}
+use mathlib.Core.Path.{_≡_, refl, sym, _∙_, subst}
+use mathlib.Core.Bool.{Bool, true, false, cond, not, _||_, true≢false}
 use mathlib.Core.List.{List}
 use native.Mathlib.Omega.{arith}
 use lib.Dec.{T, eqb, ltb}
@@ -19,14 +19,13 @@ use Rattle.daf.specs.declared.Family.{Family}
 use Rattle.daf.specs.declared.Summary.{Summary}
 use Rattle.segment.specs.Kinds.{formOf, handled, noTrailer, trailerAt, kindWith, kindOf, typeIn, trailerIn, sameTrailer, sameKind}
 use Rattle.segment.specs.Malformed.{limitNan, misplaced, lengthOf, trailerSize, badSize, badInterval, overruns, badRecords, badTrailer, badData, malformed, malformedIn, kindIn, segmentOf, judged}
-use Rattle.segment.specs.Evaluating.{unsupported, unfit, evaluated}
+use Rattle.segment.specs.Evaluating.{unfit, evaluated}
 use Rattle.segment.specs.declared.Form.{Form}
 use Rattle.segment.specs.declared.Form.the-variants.{Other, Two, Three, Nine, Thirteen}
 use Rattle.segment.specs.declared.Kind.{Kind}
 use Rattle.segment.specs.declared.Kind.the-variants.{Unsupported}
 use Rattle.segment.specs.declared.Trailer.{Trailer}
 use Rattle.segment.specs.declared.Segment.{Segment}
-use Rattle.segment.specs.declared.Judged.{Judged}
 use Rattle.segment.specs.declared.Judged.the-variants.{Accepted, Malformed}
 use Rattle.segment.specs.declared.Evaluated.the-variants.{Refused}
 use Rattle.segment.proofs.Tests.{or-first, or-second}
@@ -118,6 +117,11 @@ pub record SameData (s t : Segment) : Type 0 where
 pub unfit-data : (f : Family) (k : List ℕ) {s t : Segment} → SameData s t → unfit f k s ≡ unfit f k t
 unfolding unfit
 unfit-data f k d = rw (d .first, d .last, d .type, d .start, d .end, d .kind)
+
+-- They evaluate alike.
+pub evaluated-data : (f : Family) (k : List ℕ) {s t : Segment} → SameData s t → (i : ℕ) (et : Float) → evaluated f k s i et ≡ evaluated f k t i et
+unfolding evaluated
+evaluated-data f k d i et = rw (unfit-data f k d, d .type, d .start, d .kind)
 
 -- **opened-fits**, for one segment: on the kernel that it was opened from no evaluation of it is refused with 14, whatever its mark is.
 pub opened-fits : (f : Family) (k : List ℕ) (sum : Summary) (s t : Segment) → judged f k sum ≡ Accepted s → SameData s t

@@ -1,11 +1,10 @@
 -- An evaluation depends on nothing in the kernel but its length and the segment's own doubles. Assumes nothing.
-use Prim.Native.Nat.{ℕ, _+_, _-_, _*_, _/_, _≤_, _<_}
-use mathlib.Core.Path.{_≡_, refl, sym, ap, ap₂, _∙_}
-use mathlib.Core.Bool.{Bool, true, false, cond, not, _&&_, _||_, true≢false}
+use Prim.Native.Nat.{ℕ, _+_, _-_, _*_, _≤_, _<_}
+use mathlib.Core.Path.{_≡_, refl, sym, ap, _∙_}
 use mathlib.Core.List.{List}
 use native.Mathlib.Omega.{arith}
 use lib.Dec.{ltb}
-use lib.IntN.{ℤ, natAbs}
+use lib.IntN.{natAbs}
 use lib.Ieee.{Float, eq}
 use lib.ListN.{length}
 use borrow.Author.Tests.{ltb-false}
@@ -14,17 +13,16 @@ use Rattle.bits.specs.Bytes.{doubleAt}
 use Rattle.bits.proofs.Tests.{by-test}
 use Rattle.daf.specs.Addresses.{byteOf, doubleOfAddress, wholeDoubles}
 use Rattle.daf.specs.declared.Family.{Family}
-use Rattle.cheby.specs.Cheby.{recordFor, type2Of}
+use Rattle.cheby.specs.Cheby.{recordFor}
 use Rattle.cheby.proofs.Own.{type2-own, type3-own}
 use Rattle.interp.proofs.Own.{alike-whole, type9-own, type13-own}
-use Rattle.segment.specs.Kinds.{formOf, handled, wholeNumber, trailerAt, kindWith, kindOf, sameKind}
-use Rattle.segment.specs.Malformed.{limitNan, misplaced, lengthOf, trailerSize, coefficients, malformed, malformedIn, kindIn}
-use Rattle.segment.specs.Evaluating.{unsupported, unfit, recordByte, radiusZero, zeroRadius, emptyWindow, stateIn, stateAt, evaluated, Sound}
+use Rattle.segment.specs.Kinds.{formOf, handled, trailerAt, kindOf}
+use Rattle.segment.specs.Malformed.{limitNan, misplaced, lengthOf, trailerSize, coefficients, malformed}
+use Rattle.segment.specs.Evaluating.{unsupported, unfit, recordByte, zeroRadius, stateIn, stateAt, evaluated, Sound}
 use Rattle.segment.specs.declared.Form.{Form}
 use Rattle.segment.specs.declared.Form.the-variants.{Other, Two, Three, Nine, Thirteen}
 use Rattle.segment.specs.declared.Kind.{Kind}
 use Rattle.segment.specs.declared.Kind.the-variants.{Unsupported, Type2, Type3, Type9, Type13}
-use Rattle.segment.specs.declared.Trailer.{Trailer}
 use Rattle.segment.specs.declared.Segment.{Segment}
 use Rattle.segment.proofs.Finding.{not-handled}
 use Rattle.segment.proofs.Placed.{placed}

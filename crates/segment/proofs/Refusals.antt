@@ -1,5 +1,5 @@
 -- Exactly when a segment is refused: 9 at the opening, and 12, 14, 13 and 16 at an evaluation, 16 never. Assumes nothing.
-use Prim.Native.Nat.{ℕ, zero, suc, _≤_, _<_}
+use Prim.Native.Nat.{ℕ, zero, suc, _<_}
 use mathlib.Core.Path.{_≡_, refl, sym, ap, _∙_}
 use mathlib.Core.Bool.{Bool, true, false, cond, true≢false}
 use mathlib.Core.List.{List, [], _∷_, map}
@@ -118,3 +118,13 @@ never-16 f k s i et j e = go (refused-by f k s i et (EmptyWindow j) e)
     go (suc (suc (suc zero)), h, q) =
         true≢false (sym (h .1 .1 .1) ∙ window-some k (natAbs (s .start)) (s .kind) (fitting f k s (h .0) (h .1 .0) .1))
     go (suc (suc (suc (suc n))), h, q) = h .1 .1 .1 .1
+
+-- ---- the contracts leave no choice
+
+-- **two-answers**: any two answers that the contract of `judge` permits are equal ..
+pub two-judgements : (f : Family) (k : List ℕ) (s : Summary) (x y : Judged) → x ≡ judged f k s → y ≡ judged f k s → x ≡ y
+two-judgements f k s x y p q = p ∙ sym q
+
+-- .. and any two of `evaluate`.
+pub two-answers : (f : Family) (k : List ℕ) (s : Segment) (i : ℕ) (et : Float) (x y : Evaluated) → x ≡ evaluated f k s i et → y ≡ evaluated f k s i et → x ≡ y
+two-answers f k s i et x y p q = p ∙ sym q

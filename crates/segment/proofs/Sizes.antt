@@ -1,7 +1,7 @@
 -- What the test of RSIZE tells: a record is 2 + series * C doubles, with C at least 1, and nothing else passes. Assumes nothing.
-use Prim.Native.Nat.{ℕ, zero, suc, _+_, _-_, _*_, _/_, _≤_, _<_}
-use mathlib.Core.Path.{_≡_, refl, sym, ap, _∙_}
-use mathlib.Core.Bool.{true, false, not, _||_}
+use Prim.Native.Nat.{ℕ, _+_, _-_, _*_, _/_, _≤_}
+use mathlib.Core.Path.{_≡_, refl, ap, _∙_}
+use mathlib.Core.Bool.{false, not}
 use native.Mathlib.Nat.{mul-div-right}
 use native.Mathlib.Omega.{arith}
 use lib.Dec.{eqb, ltb}

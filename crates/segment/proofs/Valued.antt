@@ -1,21 +1,18 @@
 -- A segment at et behind refusals 12 and 14, one law for each way. Assumes nothing.
 use Prim.Native.Nat.{ℕ, _+_, _*_, _≤_, _<_}
-use mathlib.Core.Path.{_≡_, refl, sym, ap, _∙_}
+use mathlib.Core.Path.{_≡_, refl, sym, ap}
 use mathlib.Core.Bool.{Bool, true, false}
 use mathlib.Core.List.{List}
 use native.Mathlib.Nat.{mul-le-mul-left, mul-comm, mul-suc, le-trans, le-of-eq}
 use native.Mathlib.Omega.{arith}
 use lib.Dec.{eqb}
-use lib.Ieee.{Float, eq}
-use Rattle.bits.specs.F64.{+0}
-use Rattle.bits.specs.Bytes.{doubleAt}
+use lib.Ieee.{Float}
 use Rattle.bits.proofs.Whole.{record-lt}
 use Rattle.refusal.specs.declared.Refusal.the-variants.{ZeroRadius, EmptyWindow}
 use Rattle.frame.specs.declared.State.{State}
 use Rattle.daf.specs.Addresses.{byteOf}
-use Rattle.cheby.specs.declared.Cheby.{Cheby}
 use Rattle.cheby.specs.declared.Cheby.the-variants.{Value, NoRadius}
-use Rattle.cheby.specs.Cheby.{recordFor, refusedAt, record2, type2Of, type3Of}
+use Rattle.cheby.specs.Cheby.{recordFor, unlessZero, record2, type2Of, type3Of}
 use Rattle.interp.specs.Window.{windowSize}
 use Rattle.interp.specs.Discrete.{type9Of, type13Of}
 use Rattle.segment.specs.Malformed.{coefficients}
@@ -36,11 +33,11 @@ record-ends size r n h = le-trans (le-of-eq (sym (mul-suc size r))) (le-trans (m
 
 -- ---- RADIUS
 
-refused-is : (b : Bool) (a : State) → refusedAt b a ≡ NoRadius → b ≡ true
+refused-is : (b : Bool) (a : State) → unlessZero b a ≡ NoRadius → b ≡ true
 refused-is true a e = refl
 refused-is false a e = let z : _≡_ {A = ℕ} 0 1 = cc in absurd (omega arith)
 
-value-is : (b : Bool) (a s : State) → refusedAt b a ≡ Value s → b ≡ false
+value-is : (b : Bool) (a s : State) → unlessZero b a ≡ Value s → b ≡ false
 value-is true a s e = let z : _≡_ {A = ℕ} 0 1 = cc in absurd (omega arith)
 value-is false a s e = refl
 

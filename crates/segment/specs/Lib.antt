@@ -2,3 +2,4 @@
 pub mod Kinds
 pub mod Malformed
 pub mod Evaluating
+pub mod Examples

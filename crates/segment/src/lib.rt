@@ -177,12 +177,12 @@ fn misplaced(s: Segment, whole: usize) -> bool
     whole < end_of(s)
 }
 
-// A trailer's number made whole.
+// A trailer's number made whole, from its bits.
 fn whole_at(kernel: &[u8], address: usize) -> u64
     requires { ⌜ (1 ≤ address) × (8 * address ≤ length (now kernel)) ⌝ }
     ensures { λ r. ⌜ r ≡ wholeNumber (doubleOfAddress (now (kernel .entry)) address) ⌝ }
 {
-    bits::cut_u64(daf::double(kernel, address))
+    bits::cut_bits(bits::le_u64(kernel, 8 * (address - 1)))
 }
 
 // The trailer of types 2 and 3, whose last double has address `end`.
@@ -430,7 +430,7 @@ fn segment_with(s: Summary, kind: Kind) -> Segment
         last: s.last,
         name_at: s.name_at,
         marked: false,
-        kind: kind,
+        kind,
     }
 }
 
@@ -451,26 +451,10 @@ fn type_in(kind: Kind) -> u32
 {
     match kind {
         Kind::Unsupported => 0,
-        Kind::Type2 {
-            init: _,
-            intlen: _,
-            rsize: _,
-            count: _,
-        } => 2,
-        Kind::Type3 {
-            init: _,
-            intlen: _,
-            rsize: _,
-            count: _,
-        } => 3,
-        Kind::Type9 {
-            degree: _,
-            count: _,
-        } => 9,
-        Kind::Type13 {
-            degree: _,
-            count: _,
-        } => 13,
+        Kind::Type2 { .. } => 2,
+        Kind::Type3 { .. } => 3,
+        Kind::Type9 { .. } => 9,
+        Kind::Type13 { .. } => 13,
     }
 }
 
@@ -486,10 +470,10 @@ fn trailer_in(kind: Kind) -> Trailer
             rsize,
             count,
         } => Trailer {
-            init: init,
-            intlen: intlen,
+            init,
+            intlen,
             size: rsize,
-            count: count,
+            count,
         },
         Kind::Type3 {
             init,
@@ -497,22 +481,22 @@ fn trailer_in(kind: Kind) -> Trailer
             rsize,
             count,
         } => Trailer {
-            init: init,
-            intlen: intlen,
+            init,
+            intlen,
             size: rsize,
-            count: count,
+            count,
         },
         Kind::Type9 { degree, count } => Trailer {
             init: 0.0,
             intlen: 0.0,
             size: degree,
-            count: count,
+            count,
         },
         Kind::Type13 { degree, count } => Trailer {
             init: 0.0,
             intlen: 0.0,
             size: degree,
-            count: count,
+            count,
         },
     }
 }
@@ -543,26 +527,10 @@ fn unsupported(kind: Kind) -> bool
 {
     match kind {
         Kind::Unsupported => true,
-        Kind::Type2 {
-            init: _,
-            intlen: _,
-            rsize: _,
-            count: _,
-        } => false,
-        Kind::Type3 {
-            init: _,
-            intlen: _,
-            rsize: _,
-            count: _,
-        } => false,
-        Kind::Type9 {
-            degree: _,
-            count: _,
-        } => false,
-        Kind::Type13 {
-            degree: _,
-            count: _,
-        } => false,
+        Kind::Type2 { .. } => false,
+        Kind::Type3 { .. } => false,
+        Kind::Type9 { .. } => false,
+        Kind::Type13 { .. } => false,
     }
 }
 
@@ -650,10 +618,10 @@ fn value(kernel: &[u8], start: usize, kind: Kind, number: u32, et: f64) -> Evalu
             count,
         } => {
             let t = Trailer {
-                init: init,
-                intlen: intlen,
+                init,
+                intlen,
                 size: rsize,
-                count: count,
+                count,
             };
             type2(kernel, start, t, number, et)
         }
@@ -664,10 +632,10 @@ fn value(kernel: &[u8], start: usize, kind: Kind, number: u32, et: f64) -> Evalu
             count,
         } => {
             let t = Trailer {
-                init: init,
-                intlen: intlen,
+                init,
+                intlen,
                 size: rsize,
-                count: count,
+                count,
             };
             type3(kernel, start, t, number, et)
         }

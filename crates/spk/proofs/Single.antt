@@ -3,44 +3,43 @@ use mathlib.Core.Path.{_≡_, ap, ap₂, _∙_}
 use mathlib.Core.Bool.{Bool, true, false, cond}
 use mathlib.Core.List.{List, [], _∷_}
 use Prim.Native.Nat.{ℕ, _≤_, _<_}
-use lib.Dec.{ltb, leb}
+use lib.Dec.{leb}
 use lib.Ieee.{Float, isNan}
 use borrow.Author.Tests.{lt-ltb, le-ltb, le-leb, lt-leb}
 use Rattle.frame.specs.Frame.{Matrix, turnedBetween}
 use Rattle.frame.specs.declared.NaifFrame.{NaifFrame}
 use Rattle.refusal.specs.declared.Refusal.the-variants.{TableUnfit, EpochNan, NoSegment}
 use Rattle.refusal.specs.Order.{case, firstOf}
-use Rattle.daf.specs.declared.Family.the-variants.{Spk}
 use Rattle.segment.specs.declared.Segment.{Segment}
 use Rattle.segment.specs.declared.Evaluated.the-variants as evaluation
-use Rattle.segment.specs.Evaluating.{evaluated}
 use Rattle.table.specs.Segments.{seg}
+use Rattle.chain.specs.Step.{Evaluation}
 use Rattle.spk.specs.declared.Way.the-variants.{Forward}
 use Rattle.spk.specs.declared.Answer.{Answer}
 use Rattle.spk.specs.Answers.{refusedAnswer, settled}
 use Rattle.spk.specs.Turning.{frameOf, isRefused, turnedTo}
 use Rattle.spk.specs.Alone.{aloneAnswer}
 
-module _ (limit : ℕ) (k : List ℕ) (segs : List Segment) (n i : ℕ) (et : Float) where
+module _ (limit : ℕ) (ev : Evaluation) (segs : List Segment) (n i : ℕ) (et : Float) where
   -- what the three tests give
   tests : Bool → Bool → Bool → Answer
   tests a b d =
       firstOf (case a TableUnfit ∷ case b EpochNan ∷ case d NoSegment ∷ []) refusedAnswer
-      (settled (Forward i) (evaluated Spk k (seg segs i) i et))
+      (settled (Forward i) (ev (seg segs i) i et))
 
-  pub alone-unfit : limit < n → aloneAnswer limit k segs n i et ≡ refusedAnswer TableUnfit
+  pub alone-unfit : limit < n → aloneAnswer limit ev segs n i et ≡ refusedAnswer TableUnfit
   unfolding aloneAnswer tests
   alone-unfit l = ap (λ (a : Bool). tests a (isNan et) (leb n i)) (lt-ltb limit n l)
 
-  pub alone-nan : n ≤ limit → isNan et ≡ true → aloneAnswer limit k segs n i et ≡ refusedAnswer EpochNan
+  pub alone-nan : n ≤ limit → isNan et ≡ true → aloneAnswer limit ev segs n i et ≡ refusedAnswer EpochNan
   unfolding aloneAnswer tests
   alone-nan l d = ap₂ (λ (a b : Bool). tests a b (leb n i)) (le-ltb limit n l) d
 
-  pub alone-none : n ≤ limit → isNan et ≡ false → n ≤ i → aloneAnswer limit k segs n i et ≡ refusedAnswer NoSegment
+  pub alone-none : n ≤ limit → isNan et ≡ false → n ≤ i → aloneAnswer limit ev segs n i et ≡ refusedAnswer NoSegment
   unfolding aloneAnswer tests
   alone-none l d h = ap₂ (λ (a b : Bool). tests a b (leb n i)) (le-ltb limit n l) d ∙ ap (tests false false) (le-leb n i h)
 
-  pub alone-some : n ≤ limit → isNan et ≡ false → i < n → aloneAnswer limit k segs n i et ≡ settled (Forward i) (evaluated Spk k (seg segs i) i et)
+  pub alone-some : n ≤ limit → isNan et ≡ false → i < n → aloneAnswer limit ev segs n i et ≡ settled (Forward i) (ev (seg segs i) i et)
   unfolding aloneAnswer tests
   alone-some l d h = ap₂ (λ (a b : Bool). tests a b (leb n i)) (le-ltb limit n l) d ∙ ap (tests false false) (lt-leb n i h)
 

@@ -5,17 +5,16 @@ use lib.Dec.{ltb, leb}
 use lib.Ieee.{Float, isNan}
 use Rattle.refusal.specs.declared.Refusal.the-variants.{TableUnfit, EpochNan, NoSegment}
 use Rattle.refusal.specs.Order.{case, firstOf}
-use Rattle.daf.specs.declared.Family.the-variants.{Spk}
 use Rattle.segment.specs.declared.Segment.{Segment}
-use Rattle.segment.specs.Evaluating.{evaluated}
 use Rattle.table.specs.Segments.{seg}
+use Rattle.chain.specs.Step.{Evaluation}
 use Rattle.spk.specs.declared.Way.the-variants.{Forward}
 use Rattle.spk.specs.declared.Answer.{Answer}
 use Rattle.spk.specs.Answers.{refusedAnswer, settled}
 
 -- The order: a count over the limit (14), an epoch that is NaN (10), no segment of that number (17), the segment's tests, 15.
 -- No memory takes part.
-unfoldable pub aloneAnswer : ℕ → List ℕ → List Segment → ℕ → ℕ → Float → Answer
-aloneAnswer limit k segs n i et =
+unfoldable pub aloneAnswer : ℕ → Evaluation → List Segment → ℕ → ℕ → Float → Answer
+aloneAnswer limit ev segs n i et =
     firstOf (case (ltb limit n) TableUnfit ∷ case (isNan et) EpochNan ∷ case (leb n i) NoSegment ∷ []) refusedAnswer
-    (settled (Forward i) (evaluated Spk k (seg segs i) i et))
+    (settled (Forward i) (ev (seg segs i) i et))

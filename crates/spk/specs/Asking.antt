@@ -1,5 +1,5 @@
 -- The order of a question: document 01, "Questions". Assumes nothing: these are definitions.
--- Everything is over the kernel's bytes, the list of segments, their count and the table's limit.
+-- Everything is over an evaluation of segments (`evaluated Spk k` for a kernel k), the list of segments, their count and the table's limit.
 use Prim.Native.Nat.{ℕ}
 use mathlib.Core.Bool.{cond}
 use mathlib.Core.List.{List, [], _∷_}
@@ -8,22 +8,22 @@ use lib.Ieee.{isNan}
 use Rattle.frame.specs.State.{zeroState}
 use Rattle.refusal.specs.declared.Refusal.the-variants.{TableUnfit, EpochNan}
 use Rattle.refusal.specs.Order.{case, firstOf}
-use Rattle.daf.specs.declared.Family.the-variants.{Spk}
 use Rattle.segment.specs.declared.Segment.{Segment}
 use Rattle.segment.specs.declared.Evaluated.{Evaluated}
-use Rattle.segment.specs.Evaluating.{evaluated}
 use Rattle.table.specs.declared.Choice.{Choice}
 use Rattle.table.specs.declared.Choice.the-variants.{At, Nothing}
 use Rattle.table.specs.Segments.{seg}
 use Rattle.chain.specs.declared.Leg.{Leg}
+use Rattle.chain.specs.Step.{Evaluation}
 use Rattle.chain.specs.Walk.{toZero}
 use Rattle.spk.specs.declared.Question.{Question}
 use Rattle.spk.specs.declared.Memory.{Memory}
+use Rattle.spk.specs.declared.Way.{Way}
 use Rattle.spk.specs.declared.Way.the-variants.{Forward, Reversed, Chained}
 use Rattle.spk.specs.declared.Answer.{Answer}
 use Rattle.spk.specs.declared.Asked.{Asked}
 use Rattle.spk.specs.Questions.{isSame, swapped}
-use Rattle.spk.specs.Choosing.{lastForward, lastReversed, forwardIn, rememberedAt, remembered}
+use Rattle.spk.specs.Choosing.{lastReversed, forwardIn, remembered}
 use Rattle.spk.specs.Answers.{refusedAnswer, sameAnswer, settled, negatedOf, differenceOf}
 
 -- The walk of a question's target to body 0 starts with the sum +0.
@@ -31,31 +31,40 @@ abbrev pub legFrom : Question → Leg
 legFrom q = record { start = q .target; body = q .target; et = q .et; total = zeroState }
 
 -- The chain: target's state to body 0, then center's, subtracted.
-unfoldable pub chained : List ℕ → List Segment → ℕ → Question → Evaluated
-chained k segs n q = differenceOf (toZero k segs n (legFrom q)) (toZero k segs n (legFrom (swapped q)))
+unfoldable pub chained : Evaluation → List Segment → ℕ → Question → Evaluated
+chained ev segs n q = differenceOf (toZero ev segs n (legFrom q)) (toZero ev segs n (legFrom (swapped q)))
 
 -- A segment evaluated for a question.
-abbrev pub evaluatedAt : List ℕ → List Segment → Question → ℕ → Evaluated
-evaluatedAt k segs q i = evaluated Spk k (seg segs i) i (q .et)
+abbrev pub evaluatedAt : Evaluation → List Segment → Question → ℕ → Evaluated
+evaluatedAt ev segs q i = ev (seg segs i) i (q .et)
+
+-- What a question comes to before 15: by which way, and what was evaluated.
+pub record Found : Type 0 where
+  pub way : Way
+  pub result : Evaluated
 
 -- Reversed, all six negated; else chained.
-abbrev pub backward : List ℕ → List Segment → ℕ → Question → Choice → Answer
-backward k segs n q (At i) = settled (Reversed i) (negatedOf (evaluatedAt k segs q i))
-backward k segs n q Nothing = settled Chained (chained k segs n q)
+abbrev pub backward : Evaluation → List Segment → ℕ → Question → Choice → Found
+backward ev segs n q (At i) = record { way = Reversed i; result = negatedOf (evaluatedAt ev segs q i) }
+backward ev segs n q Nothing = record { way = Chained; result = chained ev segs n q }
 
 -- The forward choice; else what there is backward.
-abbrev pub answerBy : List ℕ → List Segment → ℕ → Question → Choice → Answer
-answerBy k segs n q (At i) = settled (Forward i) (evaluatedAt k segs q i)
-answerBy k segs n q Nothing = backward k segs n q (lastReversed segs n q)
+abbrev pub foundBy : Evaluation → List Segment → ℕ → Question → Choice → Found
+foundBy ev segs n q (At i) = record { way = Forward i; result = evaluatedAt ev segs q i }
+foundBy ev segs n q Nothing = backward ev segs n q (lastReversed segs n q)
+
+-- Last 15.
+abbrev pub answerTo : Found → Answer
+answerTo f = settled (f .way) (f .result)
 
 -- The order, for a forward choice: target equals center; a count over the limit (14); an epoch that is NaN (10); the choice.
-unfoldable pub askedBy : ℕ → List ℕ → List Segment → ℕ → Memory → Question → Choice → Asked
-askedBy limit k segs n m q c =
+unfoldable pub askedBy : ℕ → Evaluation → List Segment → ℕ → Memory → Question → Choice → Asked
+askedBy limit ev segs n m q c =
     cond (isSame q) (record { answer = sameAnswer; memory = m })
     (firstOf (case (ltb limit n) TableUnfit ∷ case (isNan (q .et)) EpochNan ∷ [])
     (λ r. record { answer = refusedAnswer r; memory = m })
-    (record { answer = answerBy k segs n q c; memory = remembered segs m c }))
+    (record { answer = answerTo (foundBy ev segs n q c); memory = remembered segs m c }))
 
 -- A question with a memory: the answer, and what is remembered after it.
-abbrev pub asked : ℕ → List ℕ → List Segment → ℕ → Memory → Question → Asked
-asked limit k segs n m q = askedBy limit k segs n m q (forwardIn segs n m q)
+abbrev pub asked : ℕ → Evaluation → List Segment → ℕ → Memory → Question → Asked
+asked limit ev segs n m q = askedBy limit ev segs n m q (forwardIn segs n m q)

@@ -6,3 +6,5 @@ pub mod Answers
 pub mod Asking
 pub mod Turning
 pub mod Alone
+pub mod Runs
+pub mod When

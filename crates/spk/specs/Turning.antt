@@ -7,6 +7,7 @@ use Rattle.frame.specs.declared.NaifFrame.{NaifFrame}
 use Rattle.frame.specs.declared.NaifFrame.the-variants.{J2000}
 use Rattle.segment.specs.declared.Segment.{Segment}
 use Rattle.segment.specs.declared.Evaluated.the-variants as evaluation
+use Rattle.chain.specs.Step.{Evaluation}
 use Rattle.spk.specs.declared.Question.{Question}
 use Rattle.spk.specs.declared.Memory.{Memory}
 use Rattle.spk.specs.declared.Way.{Way}
@@ -44,5 +45,5 @@ abbrev pub turnedAsked : Wanted → Matrix → Asked → Asked
 turnedAsked wanted rot a = record { answer = turnedAnswer wanted rot (a .answer); memory = a .memory }
 
 -- A question in a frame.
-abbrev pub askedIn : ℕ → List ℕ → List Segment → ℕ → Memory → Question → Wanted → Matrix → Asked
-askedIn limit k segs n m q wanted rot = turnedAsked wanted rot (asked limit k segs n m q)
+abbrev pub askedIn : ℕ → Evaluation → List Segment → ℕ → Memory → Question → Wanted → Matrix → Asked
+askedIn limit ev segs n m q wanted rot = turnedAsked wanted rot (asked limit ev segs n m q)

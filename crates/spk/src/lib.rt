@@ -2,7 +2,6 @@
 ghost use mathlib.Core.Path.{_≡_};
 ghost use Prim.Native.Nat.{_≤_, _<_};
 ghost use Rattle.daf.specs.declared.Family.the-variants.{Spk};
-ghost use Rattle.frame.specs.State.{zeroState};
 ghost use Rattle.segment.specs.Evaluating.{evaluated};
 ghost use Rattle.table.specs.Places.{tableLimit};
 ghost use Rattle.table.specs.Choosing.{orElse};
@@ -11,7 +10,7 @@ ghost use Rattle.spk.specs.Choosing.{rememberedAt};
 ghost use Rattle.spk.specs.Scanning.{placeOf, hitAt};
 ghost use Rattle.spk.specs.Answers.{answerOf, refusedAnswer, sameAnswer, settled, negatedOf, lessOf};
 ghost use Rattle.spk.specs.Asking.{legFrom, chained, asked};
-ghost use Rattle.spk.specs.Turning.{frameOf, isRefused, turnedTo, turnedAnswer, turnedAsked, askedIn};
+ghost use Rattle.spk.specs.Turning.{frameOf, isRefused, turnedTo, turnedAnswer, askedIn};
 ghost use Rattle.spk.specs.Alone.{aloneAnswer};
 use chain::Leg;
 use daf::Family;
@@ -279,7 +278,7 @@ fn reversed(kernel: &[u8], i: usize, s: Segment, et: f64) -> Answer
 // The chain: target's state to body 0, then center's, subtracted.
 fn state_via_ssb_chain(kernel: &[u8], table: Table, q: Question) -> Evaluated
     requires { ⌜ table .count ≤ tableLimit ⌝ }
-    ensures { λ r. ⌜ r ≡ chained (now (kernel .entry)) (table .segments) (table .count) q ⌝ }
+    ensures { λ r. ⌜ r ≡ chained (evaluated Spk (now (kernel .entry))) (table .segments) (table .count) q ⌝ }
 {
     let target = chain::state_wrt_ssb(kernel, table, q.leg());
     match target {
@@ -294,7 +293,7 @@ fn state_via_ssb_chain(kernel: &[u8], table: Table, q: Question) -> Evaluated
 // The answer by a chain.
 fn chained(kernel: &[u8], table: Table, q: Question) -> Answer
     requires { ⌜ table .count ≤ tableLimit ⌝ }
-    ensures { λ r. ⌜ r ≡ settled Way.Chained (chained (now (kernel .entry)) (table .segments) (table .count) q) ⌝ }
+    ensures { λ r. ⌜ r ≡ settled Way.Chained (chained (evaluated Spk (now (kernel .entry))) (table .segments) (table .count) q) ⌝ }
 {
     Answer::settled(Way::Chained, state_via_ssb_chain(kernel, table, q))
 }
@@ -328,7 +327,7 @@ fn or_hit(kept: Choice, q: Question, s: Segment, i: usize) -> Choice
 // A question with a memory. One function takes the table: it looks at the remembered segment, and scans for the pair and the swapped
 // pair at once, the last in file order first; the chosen segment goes on by value.
 pub fn state(kernel: &[u8], table: Table, memory: Memory, q: Question) -> Asked
-    ensures { λ r. ⌜ r ≡ asked tableLimit (now (kernel .entry)) (table .segments) (table .count) memory q ⌝ }
+    ensures { λ r. ⌜ r ≡ asked tableLimit (evaluated Spk (now (kernel .entry))) (table .segments) (table .count) memory q ⌝ }
 {
     if q.is_same() {
         return unchanged(Answer::same(), memory);
@@ -377,7 +376,7 @@ pub fn state_in(
     wanted: Wanted,
     rot: [[f64; 3]; 3],
 ) -> Asked
-    ensures { λ r. ⌜ r ≡ askedIn tableLimit (now (kernel .entry)) (table .segments) (table .count) memory q wanted rot ⌝ }
+    ensures { λ r. ⌜ r ≡ askedIn tableLimit (evaluated Spk (now (kernel .entry))) (table .segments) (table .count) memory q wanted rot ⌝ }
 {
     let asked = state(kernel, table, memory, q);
     let answer = asked.answer;
@@ -387,7 +386,7 @@ pub fn state_in(
 
 // A segment evaluated alone by its number, covering or not.
 pub fn alone(kernel: &[u8], table: Table, number: usize, et: f64) -> Answer
-    ensures { λ r. ⌜ r ≡ aloneAnswer tableLimit (now (kernel .entry)) (table .segments) (table .count) number et ⌝ }
+    ensures { λ r. ⌜ r ≡ aloneAnswer tableLimit (evaluated Spk (now (kernel .entry))) (table .segments) (table .count) number et ⌝ }
 {
     let n = table.count;
     if Table::PLACES < n {

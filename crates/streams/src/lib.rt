@@ -1,7 +1,9 @@
 // What a program reads and writes: the files that its arguments name, standard input and output, and the error output.
 // No contract can speak of the bytes that come in or go out: these say only how much of a buffer was filled.
 ghost use mathlib.Core.Path.{_≡_};
+ghost use Prim.Native.Nat.{_≤_};
 ghost use lib.Dec.{ltb};
+ghost use lib.ListN.{length};
 ghost use Rattle.streams.specs.Input.{Within, inputLimit};
 use refusal::Refusal;
 
@@ -81,9 +83,11 @@ pub fn read_argument(i: usize, what: &[u8], buf: &mut [u8]) -> Input
     read_file(&name[..n], buf)
 }
 
-// Writes a text to standard output; where that fails, a line on the error output says so.
-pub fn write(text: &[u8]) -> bool {
-    let done = io::write_all(1, text);
+// Writes the first n bytes of a buffer to standard output; where that fails, a line on the error output says so.
+pub fn write(buf: &[u8], n: usize) -> bool
+    requires { ⌜ n ≤ length (now buf) ⌝ }
+{
+    let done = io::write_all(1, &buf[..n]);
     if !done {
         os::fail(b"standard output");
     }
@@ -94,7 +98,7 @@ pub fn write(text: &[u8]) -> bool {
 pub fn write_refusal(r: Refusal) -> bool {
     let mut line = [0u8; 51];
     let n = lines::put_refusal(&mut line, 0, r);
-    write(&line[..n])
+    write(&line, n)
 }
 
 // Writes a line to the error output.

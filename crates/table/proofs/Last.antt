@@ -7,6 +7,7 @@ use mathlib.Core.List.{List}
 use Prim.Native.Nat.{ℕ, zero, suc, _≤_, _<_}
 use native.Mathlib.Nat.{not-suc-le-zero, le-of-suc-le-suc, eq-or-lt-of-le}
 use native.Mathlib.Omega.{arith}
+use Rattle.bits.proofs.Tests.{by-test}
 use Rattle.segment.specs.declared.Segment.{Segment}
 use Rattle.table.specs.declared.Choice.{Choice}
 use Rattle.table.specs.declared.Choice.the-variants.{At, Nothing}
@@ -40,11 +41,28 @@ module _ (test : Segment → Bool) (segs : List Segment) where
   unfolding lastIn
   last-turn i k b e h = ap (lastIn test segs) e ∙ ap (λ (t : Bool). cond t (At k) (lastIn test segs k)) h
 
-  -- its number is below the count
-  pub last-below : (n k : ℕ) → k ≤ n → Below n (lastIn test segs k)
+  -- a choice, where there is one, is below a bound and passes the test
+  abbrev pub Chosen : ℕ → Choice → Type 0
+  Chosen n (At i) = (i < n) × (test (seg segs i) ≡ true)
+  Chosen n Nothing = Unit {0}
+
+  pub chosen-at : (n : ℕ) (c : Choice) (i : ℕ) → c ≡ At i → Chosen n c → (i < n) × (test (seg segs i) ≡ true)
+  chosen-at n c i e h = subst (Chosen n) e h
+
+  pub chosen-else : (n : ℕ) (x y : Choice) → Chosen n x → Chosen n y → Chosen n (orElse x y)
+  chosen-else n (At i) y p q = p
+  chosen-else n Nothing y p q = q
+
+  chosen-more : (n k : ℕ) → k ≤ n → Chosen n (lastIn test segs k)
   unfolding lastIn
-  last-below n zero h = tt
-  last-below n (suc k) h = below-cond n (test (seg segs k)) (At k) (lastIn test segs k) (omega arith) (last-below n k (omega arith))
+  chosen-more n zero h = tt
+  chosen-more n (suc k) h =
+      by-test (test (seg segs k))
+      (λ e. subst (λ (b : Bool). Chosen n (cond b (At k) (lastIn test segs k))) (sym e) (omega arith, e))
+      (λ e. subst (λ (b : Bool). Chosen n (cond b (At k) (lastIn test segs k))) (sym e) (chosen-more n k (omega arith)))
+
+  pub last-chosen : (n : ℕ) → Chosen n (lastIn test segs n)
+  last-chosen n = chosen-more n n (omega arith)
 
   -- a segment that alone passes is the last that does
   pub last-alone : (i n : ℕ) → i < n → test (seg segs i) ≡ true

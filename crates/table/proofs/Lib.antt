@@ -1,3 +1,4 @@
 -- Laws that callers cite.
 pub mod Marks
 pub mod Last
+pub mod Names

@@ -74,7 +74,7 @@ module _ (segs : List Segment) (n : ℕ) where
       getD-set-other (markedTo segs n k) k j (withMark (seg segs k) (mark segs n k)) (blank nan) (omega arith) ∙ at-kept k j (omega arith)
 
   -- any place is as it was, but for its mark
-  at-any : (k j : ℕ) → (m : Bool) × (seg (markedTo segs n k) j ≡ withMark (seg segs j) m)
+  pub at-any : (k j : ℕ) → (m : Bool) × (seg (markedTo segs n k) j ≡ withMark (seg segs j) m)
   unfolding markedTo
   at-any zero j = (seg segs j .marked, refl)
   at-any (suc k) j =

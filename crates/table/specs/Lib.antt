@@ -3,3 +3,4 @@ pub mod Segments
 pub mod Places
 pub mod Choosing
 pub mod Marks
+pub mod Naming

@@ -4,6 +4,7 @@ ghost use Prim.Native.Nat.{_≤_};
 ghost use Rattle.table.specs.Segments.{isCovering, meets, samePair, overlaps, withMark};
 ghost use Rattle.table.specs.Places.{tableLimit, emptyTable};
 ghost use Rattle.table.specs.Marks.{rivals, marks};
+ghost use Rattle.table.specs.Naming.{nameAt};
 use segment::Segment;
 
 // The segments of an opened kernel, in file order: those below the count.
@@ -38,6 +39,21 @@ pub fn is_covering(s: Segment, et: f64) -> bool
     ensures { λ r. ⌜ r ≡ isCovering s et ⌝ }
 {
     s.first <= et && et <= s.last
+}
+
+// The name of a segment by its number: that part of the lent kernel itself, empty where there is no such segment.
+pub fn name(kernel: &[u8], table: Table, number: usize) -> &[u8]
+    ensures { λ r. ⌜ now r ≡ nameAt tableLimit (now (kernel .entry)) (table .segments) (table .count) number ⌝ }
+{
+    let n = table.count;
+    if Table::PLACES < n {
+        return &kernel[0..0];
+    }
+    if n <= number {
+        return &kernel[0..0];
+    }
+    let s = table.segments[number];
+    daf::name(kernel, s.name_at)
 }
 
 // The times of two segments touch.

@@ -1,5 +1,5 @@
 -- `chain::look` meets its contract: an answer for each way. Assumes nothing.
-use mathlib.Core.Path.{_∙_, sym, ap}
+use mathlib.Core.Path.{_∙_, sym}
 use borrow.Author.Tests.{not-true, not-false}
 use Rattle.chain.proofs.Steps.{look-past, look-seen}
 use borrow.Author.Needs.{needs}

@@ -1,19 +1,20 @@
 use Prim.Native.Nat.{ℕ}
+use Rattle.daf.specs.declared.Family.the-variants.{Spk}
+use Rattle.segment.specs.Evaluating.{evaluated}
 use Rattle.chain.specs.declared.Step.{Step}
 -- `chain::step_toward_ssb` meets its contract. What the scan still comes to, from i on with what is kept, is what it comes to from 0 on.
 -- Assumes nothing.
-use mathlib.Core.Path.{_≡_, refl, sym, ap, _∙_}
+use mathlib.Core.Path.{_≡_, sym, ap, _∙_}
 use Prim.Native.Nat.{_≤_, _-_}
 use native.Mathlib.Omega.{arith}
-use borrow.Author.Needs.{needs}
 use Rattle.chain.specs.declared.Step.the-variants.{Blocked}
-use Rattle.chain.specs.Step.{stepIn, stepFrom}
+use Rattle.chain.specs.Step.{stepIn}
 use Rattle.chain.proofs.Steps.{place-most, place-less, step-end, step-turn, step-from}
 use Rattle.chain.proofs.step_toward_ssb.Statement.{statement}
 use Rattle.chain.proofs.step_toward_ssb.Tie as tie
 
 abbrev Inv-loop : tie.InvT-loop
-Inv-loop kernel leg table n kept₀ i₀ kept i = (i ≤ n) × (n ≤ 256) × (stepIn kernel (table .segments) leg Blocked 0 n ≡ stepIn kernel (table .segments) leg kept i (n - i))
+Inv-loop kernel leg table n kept₀ i₀ kept i = (i ≤ n) × (n ≤ 256) × (stepIn (evaluated Spk kernel) (table .segments) leg Blocked 0 n ≡ stepIn (evaluated Spk kernel) (table .segments) leg kept i (n - i))
 
 abbrev μ-loop : tie.MeasureT-loop
 μ-loop kernel leg table n kept₀ i₀ kept i = n - i
@@ -43,7 +44,7 @@ loop-again : tie.Need-loop-again Inv-loop μ-loop
 loop-again c =
     let at = c .before .before .before .before .loop in
     let a = c .before .before .before .before .before .before .args in
-    let go : ℕ → Step = λ j. stepIn (a .kernel .now) (a .t2 .segments) (a .leg) (c .before .look .result) j (a .t2 .count - j) in (
+    let go : ℕ → Step = λ j. stepIn (evaluated Spk (a .kernel .now)) (a .t2 .segments) (a .leg) (c .before .look .result) j (a .t2 .count - j) in (
       omega (arith, place-most (c .before .look .result) (at .i) (a .t2 .count) (omega arith), c .place-after .ensures),
       omega arith,
       at .inv .2 ∙ step-turn _ _ _ _ (c .before .look .result) _ _ (omega arith) (c .before .look .ensures) ∙ ap go (sym (c .place-after .ensures)),

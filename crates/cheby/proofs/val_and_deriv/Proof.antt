@@ -56,8 +56,8 @@ times-requires-2 c κs = search needs
 loop-holds : tie.Need-loop-holds Inv-loop μ-loop
 unfolding T T′
 loop-holds c =
-    let first = c .before .before .before .row-at2 .ensures in
-    let second = c .before .before .before .before .row-at .ensures in (
+    let first = c .before .before .before .before .row-at .ensures in
+    let second = c .before .before .before .row-at2 .ensures in (
       0,
       refl,
       omega arith,

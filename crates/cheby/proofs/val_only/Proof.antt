@@ -36,11 +36,11 @@ all-numbers-requires c κs = omega arith
 row-at-requires : tie.Need-row-at-requires Inv-loop μ-loop
 row-at-requires c κs = (omega arith, omega arith, λ t. sym (c .all-numbers .ensures) ∙ t)
 
+row-at-requires-2 : tie.Need-row-at-requires-2 Inv-loop μ-loop
+row-at-requires-2 c κs = (omega arith, omega arith, λ t. sym (c .before .all-numbers .ensures) ∙ t)
+
 times-requires : tie.Need-times-requires Inv-loop μ-loop
 times-requires c κs = search needs
-
-row-at-requires-2 : tie.Need-row-at-requires-2 Inv-loop μ-loop
-row-at-requires-2 c κs = (omega arith, omega arith, λ t. sym (c .before .before .all-numbers .ensures) ∙ t)
 
 plus-requires : tie.Need-plus-requires Inv-loop μ-loop
 plus-requires c κs = search needs
@@ -49,7 +49,8 @@ loop-holds : tie.Need-loop-holds Inv-loop μ-loop
 unfolding T
 loop-holds c =
     let first = c .before .before .before .row-at .ensures in
-    (0, refl, omega arith, refl, refl, values-two _ _ _ _ first (c .before .row-at2 .ensures) (c .before .before .times .ensures) (c .plus .ensures))
+    let second = c .before .before .row-at2 .ensures in
+    (0, refl, omega arith, refl, refl, values-two _ _ _ _ first second (c .before .times .ensures) (c .plus .ensures))
 
 row-at-requires-3 : tie.Need-row-at-requires-3 Inv-loop μ-loop
 row-at-requires-3 c κs = (omega arith, omega arith, λ t. sym (clear (c .before) .all-numbers .ensures) ∙ t)
@@ -84,5 +85,5 @@ returns-2 c =
 pub val-only-spec : {M : Type 1} → statement M
 val-only-spec =
     tie.close
-    (tie.spec Inv-loop μ-loop val-of-few-requires returns mul-all-numbers all-numbers-requires row-at-requires times-requires row-at-requires-2 plus-requires
+    (tie.spec Inv-loop μ-loop val-of-few-requires returns mul-all-numbers all-numbers-requires row-at-requires row-at-requires-2 times-requires plus-requires
     loop-holds row-at-requires-3 plus-requires-2 add-k loop-less loop-again returns-2)

@@ -2,9 +2,9 @@
 use mathlib.Core.Path.{_≡_, sym, ap, _∙_}
 use mathlib.Core.Bool.{false}
 use Prim.Native.Nat.{ℕ}
-use lib.Dec.{T, ltb}
+use lib.Dec.{ltb}
 use lib.IntN.{pos}
-use lib.Signed.{ltZ, nonNeg}
+use lib.Signed.{ltZ}
 use borrow.Author.Needs.{needs}
 use Rattle.segment.proofs.Placed.{bits-less, not-under, over-count}
 use Rattle.segment.proofs.misplaced.Statement.{statement}

@@ -2,7 +2,7 @@
 use Rattle.segment.proofs.Valued.{record-below, record-ends, two-refused, two-answered}
 use Rattle.cheby.specs.Cheby.{recordFor}
 use native.Mathlib.Omega.{arith}
-use mathlib.Core.Path.{sym, ap, _∙_}
+use mathlib.Core.Path.{sym, _∙_}
 use borrow.Author.Needs.{needs}
 use Rattle.segment.proofs.type2.Statement.{statement}
 use Rattle.segment.proofs.type2.Tie as tie

@@ -2,7 +2,6 @@
 use Rattle.segment.proofs.Valued.{record-below, record-ends, three-answered}
 use Rattle.cheby.specs.Cheby.{recordFor}
 use native.Mathlib.Omega.{arith}
-use mathlib.Core.Path.{sym, ap, _∙_}
 use borrow.Author.Needs.{needs}
 use Rattle.segment.proofs.type3.Statement.{statement}
 use Rattle.segment.proofs.type3.Tie as tie

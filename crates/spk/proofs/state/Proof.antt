@@ -1,18 +1,19 @@
-use lib.Ieee.{isNan}
 use Rattle.spk.specs.declared.Question.{Question}
 use Rattle.spk.specs.declared.Answer.{Answer}
-use Rattle.spk.specs.Questions.{isSame}
 use Rattle.spk.specs.Choosing.{lastReversed, forwardIn}
 use Rattle.spk.specs.Scanning.{hitAt}
-use Rattle.spk.specs.Asking.{backward}
+use Rattle.spk.specs.Asking.{backward, answerTo}
+use Rattle.spk.specs.When.{Open}
 -- `spk::state` meets its contract. What is left to scan for the pair and for the swapped pair is what there is; a reversed choice that
 -- was kept comes first. Assumes nothing.
 use mathlib.Core.Path.{_≡_, refl, sym, ap, _∙_, subst}
 use mathlib.Core.Logic.{⊎-elim}
-use mathlib.Core.Bool.{Bool, true, false}
-use Prim.Native.Nat.{ℕ, _≤_, _-_}
+use mathlib.Core.Bool.{true, false}
+use Prim.Native.Nat.{_≤_, _-_}
 use native.Mathlib.Omega.{arith}
 use borrow.Author.Needs.{needs}
+use Rattle.daf.specs.declared.Family.the-variants.{Spk}
+use Rattle.segment.specs.Evaluating.{evaluated}
 use Rattle.table.specs.declared.Choice.{Choice}
 use Rattle.table.specs.declared.Choice.the-variants.{At, Nothing}
 use Rattle.table.specs.Segments.{seg}
@@ -34,12 +35,7 @@ Inv-loop kernel memory q table n place back kept₀ i₀ kept i =
 abbrev μ-loop : tie.MeasureT-loop
 μ-loop kernel memory q table n place back kept₀ i₀ kept i = i
 
--- past the first three tests: target is not center, the count fits, and the epoch is no NaN
-record Open (limit n : ℕ) (q : Question) : Type 0 where
-  other : isSame q ≡ false
-  fits : n ≤ limit
-  number : isNan (q .et) ≡ false
-
+-- past the first three tests
 opened : (c : tie.Else3 Inv-loop μ-loop) → Open 256 (c .before .before .before .before .before .before .args .t2 .count) (c .before .before .before .before .before .before .args .q)
 opened c = record {
   other = sym (c .before .before .before .before .is-same .ensures) ∙ c .before .before .before .if1 .left;
@@ -213,7 +209,7 @@ returns-6 c =
     let e = ended (c .before .before .before .before .before .before) in
     c .unchanged4 .ensures
     ∙ ap (λ (x : Answer). record { answer = x; memory = a .memory }) (c .before .reversed .ensures)
-    ∙ ap (λ (x : Choice). record { answer = backward (a .kernel .now) (a .t2 .segments) (a .t2 .count) (a .q) x; memory = a .memory }) (sym (e .1 ∙ c .before .before .before .before .kept .given .1))
+    ∙ ap (λ (x : Choice). record { answer = answerTo (backward (evaluated Spk (a .kernel .now)) (a .t2 .segments) (a .t2 .count) (a .q) x); memory = a .memory }) (sym (e .1 ∙ c .before .before .before .before .kept .given .1))
     ∙ asked-by _ _ (a .t2 .segments) (a .t2 .count) (a .memory) (a .q) Nothing (e .0) (o .other) (o .fits) (o .number)
 
 returns-7 : tie.Need-returns-7 Inv-loop μ-loop
@@ -223,7 +219,7 @@ returns-7 c =
     let e = ended (c .before .before .before .before) in
     c .unchanged5 .ensures
     ∙ ap (λ (x : Answer). record { answer = x; memory = a .memory }) (c .before .chained .ensures)
-    ∙ ap (λ (x : Choice). record { answer = backward (a .kernel .now) (a .t2 .segments) (a .t2 .count) (a .q) x; memory = a .memory }) (sym (e .1 ∙ c .before .before .enum-told .given .1))
+    ∙ ap (λ (x : Choice). record { answer = answerTo (backward (evaluated Spk (a .kernel .now)) (a .t2 .segments) (a .t2 .count) (a .q) x); memory = a .memory }) (sym (e .1 ∙ c .before .before .enum-told .given .1))
     ∙ asked-by _ _ (a .t2 .segments) (a .t2 .count) (a .memory) (a .q) Nothing (e .0) (o .other) (o .fits) (o .number)
 
 pub state-spec : {M : Type 1} → statement M

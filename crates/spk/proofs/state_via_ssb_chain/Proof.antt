@@ -1,7 +1,6 @@
 -- `spk::state_via_ssb_chain` meets its contract: the target's walk, then the center's. Assumes nothing.
 use mathlib.Core.Path.{_∙_, sym, ap}
 use Rattle.chain.specs.Walk.{toZero}
-use Rattle.spk.specs.Answers.{lessOf}
 use Rattle.spk.specs.Asking.{legFrom}
 use Rattle.spk.proofs.Settling.{chained-refused, chained-state}
 use borrow.Author.Needs.{needs}

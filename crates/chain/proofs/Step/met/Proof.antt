@@ -1,6 +1,6 @@
 -- `chain::Step::met` meets its contract: an answer for each way. In an arm, `given .1` says which constructor the scan's value is.
 -- Assumes nothing.
-use mathlib.Core.Path.{_≡_, refl, sym, _∙_}
+use mathlib.Core.Path.{refl, sym, _∙_}
 use mir.Syntax.{w32}
 use mir.ValLaws.{toZ-ofZ}
 use Rattle.chain.specs.declared.Step.the-variants.{Blocked, Kept, Home, Refused}

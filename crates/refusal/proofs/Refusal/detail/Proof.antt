@@ -1,26 +1,20 @@
 -- `refusal::Refusal::detail` meets its contract: in an arm, `given .1` says which constructor the refusal is. Assumes nothing.
-use mathlib.Core.Path.{_≡_, sym, ap, _∙_, subst}
+use mathlib.Core.Path.{_≡_, sym, ap, _∙_}
 use Prim.Native.Nat.{ℕ}
-use lib.IntN.{ℤ, pos}
+use lib.IntN.{pos}
 use mir.Syntax.{w32, w64}
-use mir.Val.{Fits, SFits, toZ, ofZ}
-use mir.Facts.{toZ-pos, toZ-ofZ, sfits-widen}
+use mir.Val.{Fits, toZ}
+use mir.Facts.{toZ-pos}
 use native.Mathlib.Omega.{arith}
 use borrow.Author.Needs.{needs}
 use Rattle.refusal.specs.Numbers.{detailOf}
+use Rattle.refusal.proofs.Widened.{whole-fits, whole}
 use Rattle.refusal.proofs.Refusal.detail.Statement.{statement}
 use Rattle.refusal.proofs.Refusal.detail.Tie as tie
 
 -- a segment's number, read as a signed one
 number : (n : ℕ) → Fits w32 n → toZ w64 n ≡ pos n
 number n f = toZ-pos w64 (omega arith)
-
--- a body or a type, widened
-whole-fits : (z : ℤ) → SFits w32 z → SFits w64 (toZ w32 (ofZ w32 z))
-whole-fits z f = subst (SFits w64) (sym (toZ-ofZ f)) (sfits-widen tt f)
-
-whole : (z : ℤ) → SFits w32 z → toZ w64 (ofZ w64 (toZ w32 (ofZ w32 z))) ≡ z
-whole z f = toZ-ofZ (whole-fits z f) ∙ toZ-ofZ f
 
 enum-told : tie.Need-enum-told
 enum-told c = search needs

@@ -1,0 +1,3 @@
+-- The proofs of the demands.
+pub mod Memory3
+pub mod Fits

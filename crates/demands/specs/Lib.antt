@@ -1,0 +1,2 @@
+-- What is proved beyond the contracts.
+pub mod Demands

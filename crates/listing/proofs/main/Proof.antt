@@ -1,0 +1,71 @@
+-- `listing::main` is safe: what was read lies within the buffer. Assumes nothing.
+use mathlib.Core.Path.{subst}
+use Rattle.io.specs.Counts.{Counts}
+use Rattle.streams.specs.Input.{Within}
+use Rattle.streams.specs.declared.Input.{Input}
+use borrow.Author.Needs.{needs}
+use Rattle.listing.proofs.main.Statement.{statement}
+use Rattle.listing.proofs.main.Tie as tie
+
+-- how many bytes were read
+counted : (c : tie.After-input) → Counts (c .input .given .0 .0) (c .before .before .before .read-standard .last .0)
+counted c =
+    let r = c .before .before .before .read-standard in
+    subst (λ (i : Input). Within i (r .last .0)) (c .input .given .1) (r .ensures)
+
+arg-count-requires : tie.Need-arg-count-requires
+arg-count-requires c κs = search needs
+
+slice-aggregate-complain : tie.Need-slice-aggregate-complain
+slice-aggregate-complain c = search needs
+
+complain-requires : tie.Need-complain-requires
+complain-requires c κs = search needs
+
+returns : tie.Need-returns
+returns c = search needs
+
+slice-aggregate-read-standard : tie.Need-slice-aggregate-read-standard
+slice-aggregate-read-standard c = search needs
+
+read-standard-requires : tie.Need-read-standard-requires
+read-standard-requires c κs = search needs
+
+enum-known-input : tie.Need-enum-known-input
+enum-known-input c = search needs
+
+array-share-prefix-kernel : tie.Need-array-share-prefix-kernel
+array-share-prefix-kernel c = counted (c .before) .0
+
+slice-aggregate-list : tie.Need-slice-aggregate-list
+slice-aggregate-list c = counted (c .before .before) .1
+
+list-requires : tie.Need-list-requires
+list-requires c κs = search needs
+
+enum-told : tie.Need-enum-told
+enum-told c = search needs
+
+returns-2 : tie.Need-returns-2
+returns-2 c = search needs
+
+returns-3 : tie.Need-returns-3
+returns-3 c = search needs
+
+pub main-spec : {M : Type 1} → statement M
+main-spec =
+    tie.close
+    (tie.spec
+    arg-count-requires
+    slice-aggregate-complain
+    complain-requires
+    returns
+    slice-aggregate-read-standard
+    read-standard-requires
+    enum-known-input
+    array-share-prefix-kernel
+    slice-aggregate-list
+    list-requires
+    enum-told
+    returns-2
+    returns-3)

@@ -1,0 +1,145 @@
+// Lists the segments of the SPK kernel on standard input: how many, then a line each; or the refusal.
+ghost use mathlib.Core.Path.{_≡_};
+ghost use Prim.Native.Nat.{_+_, _≤_};
+ghost use lib.ListN.{length};
+ghost use Rattle.lines.specs.Written.{Written};
+ghost use Rattle.table.specs.Places.{tableLimit};
+ghost use Rattle.listing.specs.Lines.{fieldText, markText, headText, spanText, segmentText, countText};
+use daf::Family;
+use opening::Outcome;
+use refusal::Refusal;
+use segment::Segment;
+use streams::Input;
+use table::Table;
+
+// Puts a signed number behind a space.
+fn put_field(out: &mut [u8], at: usize, n: i32) -> usize
+    requires { ⌜ at + 22 ≤ length (now out) ⌝ }
+    ensures { λ r. ⌜ Written (now (out .entry)) at (fieldText n) (now (out .exit)) r ⌝ }
+    ensures { λ r. ⌜ r ≤ at + 22 ⌝ }
+{
+    let next = lines::put(out, at, b" ");
+    lines::put_signed(out, next, n as i64)
+}
+
+// Puts whether a segment is marked, and the newline.
+fn put_mark(out: &mut [u8], at: usize, marked: bool) -> usize
+    requires { ⌜ at + 5 ≤ length (now out) ⌝ }
+    ensures { λ r. ⌜ Written (now (out .entry)) at (markText marked) (now (out .exit)) r ⌝ }
+    ensures { λ r. ⌜ r ≤ at + 5 ⌝ }
+{
+    if marked {
+        lines::put(out, at, b" yes\n")
+    } else {
+        lines::put(out, at, b" no\n")
+    }
+}
+
+// Puts the first part of a segment's line: target, center, frame, type.
+fn put_head(out: &mut [u8], at: usize, s: Segment) -> usize
+    requires { ⌜ at + 88 ≤ length (now out) ⌝ }
+    ensures { λ r. ⌜ Written (now (out .entry)) at (headText s) (now (out .exit)) r ⌝ }
+    ensures { λ r. ⌜ r ≤ at + 88 ⌝ }
+{
+    let center = put_field(out, at, s.target);
+    let frame = put_field(out, center, s.center);
+    let data_type = put_field(out, frame, s.frame);
+    put_field(out, data_type, s.data_type)
+}
+
+// Puts the rest of it: both epochs, both addresses, whether it is marked.
+fn put_span(out: &mut [u8], at: usize, s: Segment) -> usize
+    requires { ⌜ at + 83 ≤ length (now out) ⌝ }
+    ensures { λ r. ⌜ Written (now (out .entry)) at (spanText s) (now (out .exit)) r ⌝ }
+    ensures { λ r. ⌜ r ≤ at + 83 ⌝ }
+{
+    let last = lines::put_number(out, at, s.first);
+    let start = lines::put_number(out, last, s.last);
+    let end = put_field(out, start, s.start);
+    let mark = put_field(out, end, s.end);
+    put_mark(out, mark, s.marked)
+}
+
+// Puts the line of segment i at the start of a buffer.
+fn put_segment(out: &mut [u8], i: usize, s: Segment) -> usize
+    requires { ⌜ 191 ≤ length (now out) ⌝ }
+    ensures { λ r. ⌜ Written (now (out .entry)) 0 (segmentText i s) (now (out .exit)) r ⌝ }
+    ensures { λ r. ⌜ r ≤ 191 ⌝ }
+{
+    let head = lines::put_decimal(out, 0, i as u64);
+    let span = put_head(out, head, s);
+    put_span(out, span, s)
+}
+
+// Puts the first line: how many segments there are.
+fn put_count(out: &mut [u8], count: usize) -> usize
+    requires { ⌜ 30 ≤ length (now out) ⌝ }
+    ensures { λ r. ⌜ Written (now (out .entry)) 0 (countText count) (now (out .exit)) r ⌝ }
+    ensures { λ r. ⌜ r ≤ 30 ⌝ }
+{
+    let number = lines::put(out, 0, b"segments ");
+    let end = lines::put_decimal(out, number, count as u64);
+    lines::put(out, end, b"\n")
+}
+
+// Writes the line of segment i. No contract can speak of what is written.
+fn write_segment(i: usize, s: Segment) -> bool {
+    let mut line = [0u8; 191];
+    let n = put_segment(&mut line, i, s);
+    streams::write(&line, n)
+}
+
+// Writes the first line.
+fn write_count(count: usize) -> bool {
+    let mut line = [0u8; 30];
+    let n = put_count(&mut line, count);
+    streams::write(&line, n)
+}
+
+// Writes a line for each segment of a table.
+fn write_segments(table: Table)
+    requires { ⌜ table .count ≤ tableLimit ⌝ }
+{
+    let n = table.count;
+    let mut i: usize = 0;
+    while i < n {
+        let s = table.segments[i];
+        if !write_segment(i, s) {
+            return;
+        }
+        i += 1;
+    }
+}
+
+// Writes the listing of a kernel.
+fn list(kernel: &[u8]) {
+    if streams::too_long(kernel.len()) {
+        streams::write_refusal(Refusal::InputTooLong);
+        return;
+    }
+    let opened = opening::open(kernel, Family::Spk);
+    let outcome = opened.outcome;
+    let table = opened.table;
+    match outcome {
+        Outcome::Refused(refusal) => {
+            streams::write_refusal(refusal);
+        }
+        Outcome::Accepted => {
+            if write_count(table.count) {
+                write_segments(table);
+            }
+        }
+    }
+}
+
+fn main() {
+    if os::arg_count() != 1 {
+        streams::complain(b"usage: listing < KERNEL\n");
+        return;
+    }
+    let mut kernel = [0u8; streams::ROOM];
+    let input = streams::read_standard(&mut kernel);
+    if let Input::Bytes(n) = input {
+        list(&kernel[..n]);
+    }
+}

@@ -1,0 +1,244 @@
+// measure MODE KERNEL QUESTIONS PASSES: our side of bench/, a loop to count instructions in. Each pass takes the next question, the first
+// again after the last. MODE: `remember` lets the memory go from question to question, `forget` asks each with none; `orient` asks a PCK
+// kernel; `open` opens the kernel once a pass; `nothing` only goes through the questions. It writes the sum of the answers, so that
+// each has to be worked out, and ends at the first refusal. No contract can speak of what is written.
+ghost use Prim.Native.Nat.{_+_, _*_, _≤_, _<_};
+ghost use lib.ListN.{length};
+ghost use Rattle.io.specs.Counts.{Counts};
+use daf::Family;
+use frame::State;
+use opening::Outcome;
+use spk::Memory;
+use spk::Way;
+use table::Table;
+
+// Question i of a file of 18-byte records.
+fn spk_question(asked: &[u8], i: usize) -> spk::Question
+    requires { ⌜ 18 * i + 18 ≤ length (now asked) ⌝ }
+{
+    let p = 18 * i;
+    spk::Question {
+        target: bits::le_i32(asked, p + 2),
+        center: bits::le_i32(asked, p + 6),
+        et: bits::double_at(asked, p + 10),
+    }
+}
+
+// Question i of a file of 14-byte records.
+fn pck_question(asked: &[u8], i: usize) -> pck::Question
+    requires { ⌜ 14 * i + 14 ≤ length (now asked) ⌝ }
+{
+    let p = 14 * i;
+    pck::Question {
+        body: bits::le_i32(asked, p + 2),
+        et: bits::double_at(asked, p + 6),
+    }
+}
+
+// The number after i of so many, the first after the last.
+fn next(i: usize, n: usize) -> usize
+    requires { ⌜ i < n ⌝ }
+    ensures { λ r. ⌜ r < n ⌝ }
+{
+    if i + 1 < n { i + 1 } else { 0 }
+}
+
+// The question was answered; where not, a line on the error output says so.
+fn answered(way: Way) -> bool {
+    match way {
+        Way::Same => true,
+        Way::Forward(_) => true,
+        Way::Reversed(_) => true,
+        Way::Chained => true,
+        Way::Refused(_) => {
+            streams::complain(b"measure: a question was refused\n");
+            false
+        }
+    }
+}
+
+// The same of an orientation.
+fn oriented(outcome: pck::Outcome) -> bool {
+    match outcome {
+        pck::Outcome::Turned => true,
+        pck::Outcome::Refused(_) => {
+            streams::complain(b"measure: an orientation was refused\n");
+            false
+        }
+    }
+}
+
+// Goes through the questions and asks none.
+fn nothing(asked: &[u8], passes: u64) -> State {
+    let n = asked.len() / 18;
+    let mut sum = State::zero();
+    if n == 0 {
+        return sum;
+    }
+    let mut at: usize = 0;
+    let mut i: u64 = 0;
+    while i < passes {
+        let q = spk_question(asked, at);
+        sum.x = sum.x + q.et;
+        at = next(at, n);
+        i += 1;
+    }
+    sum
+}
+
+// Opens the kernel.
+fn open(kernel: &[u8], passes: u64) -> State {
+    let mut sum = State::zero();
+    let mut i: u64 = 0;
+    while i < passes {
+        let opened = opening::open(kernel, Family::Spk);
+        let t = opened.table;
+        let s = t.segments[0];
+        sum.x = sum.x + s.last;
+        i += 1;
+    }
+    sum
+}
+
+// Asks an SPK.
+fn ask(kernel: &[u8], table: Table, asked: &[u8], forget: bool, passes: u64) -> State {
+    let n = asked.len() / 18;
+    let mut sum = State::zero();
+    if n == 0 {
+        return sum;
+    }
+    let mut memory = Memory::Blank;
+    let mut at: usize = 0;
+    let mut i: u64 = 0;
+    while i < passes {
+        let q = spk_question(asked, at);
+        let r = spk::state(kernel, table, memory, q);
+        let answer = r.answer;
+        let way = answer.way;
+        if !answered(way) {
+            return sum;
+        }
+        let state = answer.state;
+        sum = sum.plus(state);
+        if !forget {
+            memory = r.memory;
+        }
+        at = next(at, n);
+        i += 1;
+    }
+    sum
+}
+
+// Asks a PCK.
+fn orient(kernel: &[u8], table: Table, asked: &[u8], passes: u64) -> State {
+    let n = asked.len() / 14;
+    let mut sum = State::zero();
+    if n == 0 {
+        return sum;
+    }
+    let mut at: usize = 0;
+    let mut i: u64 = 0;
+    while i < passes {
+        let q = pck_question(asked, at);
+        let r = pck::orient(kernel, table, q);
+        let outcome = r.outcome;
+        if !oriented(outcome) {
+            return sum;
+        }
+        let angles = r.angles;
+        sum = sum.plus(angles);
+        at = next(at, n);
+        i += 1;
+    }
+    sum
+}
+
+// The number that a text of at most nine digits writes.
+fn number(text: &[u8]) -> u64 {
+    let mut n: u64 = 0;
+    let mut i: usize = 0;
+    while i < text.len() && i < 9 {
+        n = (10 * n + digit(text[i])) % 1000000000;
+        i += 1;
+    }
+    n
+}
+
+// What a digit stands for.
+fn digit(b: u8) -> u64
+    ensures { λ r. ⌜ r < 10 ⌝ }
+{
+    if b < b'0' {
+        return 0;
+    }
+    if b'9' < b {
+        return 0;
+    }
+    (b - b'0') as u64
+}
+
+// The passes over an opened kernel.
+fn over(kernel: &[u8], asked: &[u8], mode: &[u8], passes: u64) -> State {
+    let pck = check::same(mode, b"orient");
+    let family = if pck { Family::Pck } else { Family::Spk };
+    let opened = opening::open(kernel, family);
+    let outcome = opened.outcome;
+    let table = opened.table;
+    if let Outcome::Refused(_) = outcome {
+        streams::complain(b"measure: the kernel was refused\n");
+        return State::zero();
+    }
+    if pck {
+        return orient(kernel, table, asked, passes);
+    }
+    ask(kernel, table, asked, check::same(mode, b"forget"), passes)
+}
+
+// The passes in a mode.
+fn run(kernel: &[u8], asked: &[u8], mode: &[u8], passes: u64) -> State {
+    if check::same(mode, b"nothing") {
+        return nothing(asked, passes);
+    }
+    if check::same(mode, b"open") {
+        return open(kernel, passes);
+    }
+    over(kernel, asked, mode, passes)
+}
+
+// Writes the sum.
+fn write_sum(sum: State) {
+    let mut line = [0u8; 102];
+    let n = lines::put_state(&mut line, 0, sum);
+    streams::write(&line[..n]);
+    streams::write(b"\n");
+}
+
+// Reads the file that argument i names: nothing where it can't be read, which a line on the error output then says.
+fn load(i: usize, buf: &mut [u8]) -> usize
+    ensures { λ r. ⌜ Counts r (now (buf .exit)) ⌝ }
+{
+    let mut name = io::buffer();
+    let n = os::arg(i, &mut name);
+    let fd = os::open_read(&name[..n]);
+    if fd < 0 {
+        os::fail(&name[..n]);
+        return 0;
+    }
+    io::read_full(fd, buf)
+}
+
+fn main() {
+    if os::arg_count() != 5 {
+        streams::complain(b"usage: measure MODE KERNEL QUESTIONS PASSES\n");
+        return;
+    }
+    let mut mode = [0u8; 16];
+    let m = os::arg(1, &mut mode);
+    let mut passes = [0u8; 16];
+    let p = os::arg(4, &mut passes);
+    let mut kernel = io::large_buffer();
+    let k = load(2, &mut kernel);
+    let mut asked = io::large_buffer();
+    let q = load(3, &mut asked);
+    write_sum(run(&kernel[..k], &asked[..q], &mode[..m], number(&passes[..p])));
+}

@@ -1,0 +1,150 @@
+-- Worked questions, tables under one statement each, which antt computes. A segment here is evaluated to six times a number, or refused.
+-- Assumes nothing.
+use Prim.Native.Nat.{ℕ}
+use mathlib.Core.Path.{_≡_, refl}
+use mathlib.Core.Bool.{false, cond}
+use mathlib.Core.List.{List, [], _∷_, map}
+use lib.IntN.{pos}
+use lib.Ieee.{Float, nan, inf, binary64, add, sub, mul, neg, le, isNan, ofInt, ofBits}
+use Rattle.bits.specs.F64.{+0, whole}
+use Rattle.bits.specs.Same.{sameZ}
+use Rattle.frame.specs.declared.State.{State}
+use Rattle.frame.specs.State.{stateOf, zeroState, negatedState, plusState, minusState, finiteState}
+use Rattle.frame.specs.Frame.{matrix, turnedBetween}
+use Rattle.frame.specs.declared.NaifFrame.the-variants.{J2000, EclipJ2000}
+use Rattle.refusal.specs.declared.Refusal.{Refusal}
+use Rattle.refusal.specs.declared.Refusal.the-variants.{EpochNan, NoCoverage, TableUnfit, NotFinite, NoSegment, Unsupported}
+use Rattle.segment.specs.declared.Segment.{Segment}
+use Rattle.segment.specs.declared.Kind.the-variants as kinds
+use Rattle.segment.specs.declared.Evaluated.{Evaluated}
+use Rattle.segment.specs.declared.Evaluated.the-variants as evaluation
+use Rattle.table.specs.Choosing.{lastIn}
+use Rattle.table.specs.Marks.{others, markedTo}
+use Rattle.chain.specs.Step.{met, look, stepIn, stepFrom}
+use Rattle.chain.specs.Walk.{walkFrom, toZero}
+use Rattle.spk.specs.declared.Question.{Question}
+use Rattle.spk.specs.declared.Memory.{Memory}
+use Rattle.spk.specs.declared.Memory.the-variants.{Blank, Kept}
+use Rattle.spk.specs.declared.Way.{Way}
+use Rattle.spk.specs.declared.Way.the-variants.{Same, Forward, Reversed, Chained, Refused}
+use Rattle.spk.specs.declared.Asked.{Asked}
+use Rattle.spk.specs.declared.Wanted.the-variants.{AsItStands, In}
+use Rattle.spk.specs.Choosing.{recall, forwardIn}
+use Rattle.spk.specs.Answers.{answerOf, refusedAnswer, sameAnswer, settled, negatedOf, differenceOf}
+use Rattle.spk.specs.Asking.{chained, askedBy, asked}
+use Rattle.spk.specs.Turning.{turnedTo, askedIn}
+use Rattle.spk.specs.Alone.{aloneAnswer}
+use Rattle.spk.specs.Runs.{Asking, Plain, InFrame, Single, fresh, run}
+
+-- a segment of a pair and two epochs, of a type, with a number for its evaluation
+abbrev of-type : ℕ → ℕ → ℕ → ℕ → ℕ → ℕ → Segment
+of-type type t c a b x =
+    record {
+      target = pos t;
+      center = pos c;
+      frame = pos 1;
+      «data_type» = pos type;
+      start = pos x;
+      end = pos 9;
+      first = whole a;
+      last = whole b;
+      «name_at» = 0;
+      marked = false;
+      kind = kinds.Unsupported;
+    }
+
+-- six times a number
+abbrev six : Float → State
+six x = stateOf (λ k. x)
+
+-- a segment of type 2 gives six times its number, one of type 3 six times infinity, and one of another type is refused
+abbrev evaluate : Segment → ℕ → Float → Evaluated
+evaluate s i et =
+    cond (sameZ (s .«data_type») (pos 2)) (evaluation.State (six (ofInt binary64 (s .start))))
+    (cond (sameZ (s .«data_type») (pos 3)) (evaluation.State (six (inf false))) (evaluation.Refused (Unsupported (s .«data_type»))))
+
+-- 0, 1: 399 about 3 from 0 to 10 and from 7 to 12, which overlap; 2: 3 about 0; 3: 301 about 3; 4: 8 about 9, refused; 5: 10 about 0, not finite
+abbrev six-of : List Segment
+six-of =
+    markedTo
+    (of-type 2 399 3 0 10 1 ∷ of-type 2 399 3 7 12 2 ∷ of-type 2 3 0 0 20 4 ∷ of-type 2 301 3 0 20 8 ∷ of-type 1 8 9 0 20 0 ∷ of-type 3 10 0 0 20 0 ∷ [])
+    6 6
+
+abbrev pair : ℕ → ℕ → Float → Question
+pair t c et = record { target = pos t; center = pos c; et = et }
+
+abbrev ask : Memory → Question → Asked
+ask m q = asked 6 evaluate six-of 6 m q
+
+abbrev gives : Way → Float → Memory → Asked
+gives way x m = record { answer = answerOf way (six x); memory = m }
+
+abbrev refuses : Refusal → Memory → Asked
+refuses r m = record { answer = refusedAnswer r; memory = m }
+
+-- the last wins forward, the ends included, and an unmarked segment is not remembered; where the second does not cover, the first
+pub forward-cases :
+    ask Blank (pair 399 3 (whole 7)) ∷ ask Blank (pair 399 3 (whole 12)) ∷ ask Blank (pair 399 3 (whole 3)) ∷ []
+    ≡ gives (Forward 1) (whole 2) Blank ∷ gives (Forward 1) (whole 2) Blank ∷ gives (Forward 0) (whole 1) Blank ∷ []
+unfolding askedBy forwardIn recall lastIn markedTo others settled refusedAnswer finiteState zeroState le isNan ofInt ofBits
+forward-cases = refl
+
+-- a marked segment is remembered, though its evaluation is refused or 15 follows; a reversed choice is not, and leaves what was
+pub memory-cases :
+    ask Blank (pair 3 0 (whole 3)) ∷ ask (Kept 2) (pair 8 9 (whole 3)) ∷ ask (Kept 2) (pair 10 0 (whole 3)) ∷ ask (Kept 3) (pair 0 3 (whole 3)) ∷ []
+    ≡ gives (Forward 2) (whole 4) (Kept 2) ∷ refuses (Unsupported (pos 1)) (Kept 4) ∷ refuses NotFinite (Kept 5) ∷ gives (Reversed 2) (neg (whole 4)) (Kept 3) ∷ []
+unfolding askedBy forwardIn recall lastIn markedTo others settled negatedOf negatedState refusedAnswer finiteState zeroState le neg isNan ofInt ofBits
+memory-cases = refl
+
+-- a remembered segment that is unmarked, of another pair, or past the count is not used
+pub forged-cases :
+    ask (Kept 0) (pair 399 3 (whole 8)) ∷ ask (Kept 2) (pair 301 3 (whole 3)) ∷ ask (Kept 6) (pair 3 0 (whole 3)) ∷ []
+    ≡ gives (Forward 1) (whole 2) (Kept 0) ∷ gives (Forward 3) (whole 8) (Kept 3) ∷ gives (Forward 2) (whole 4) (Kept 2) ∷ []
+unfolding askedBy forwardIn recall lastIn markedTo others settled refusedAnswer finiteState zeroState le isNan ofInt ofBits
+forged-cases = refl
+
+-- target equal to center gives zeros, with a NaN epoch and a forged count too; then 14; then 10
+pub first-cases :
+    asked 6 evaluate six-of 7 (Kept 1) (pair 5 5 nan) ∷ asked 6 evaluate six-of 7 (Kept 1) (pair 3 0 nan) ∷ ask (Kept 1) (pair 3 0 nan) ∷ []
+    ≡ gives Same +0 (Kept 1) ∷ refuses TableUnfit (Kept 1) ∷ refuses EpochNan (Kept 1) ∷ []
+unfolding askedBy forwardIn recall lastIn markedTo others settled sameAnswer refusedAnswer zeroState le isNan ofInt ofBits
+first-cases = refl
+
+-- the chain: the first wins there; a difference of equal walks is +0; a body without a way; the target's refusal comes first
+pub chain-cases :
+    ask Blank (pair 399 301 (whole 8)) ∷ ask Blank (pair 301 399 (whole 8)) ∷ ask Blank (pair 399 7 (whole 8)) ∷ ask Blank (pair 8 7 (whole 8)) ∷ []
+    ≡ gives Chained (neg (whole 7)) Blank ∷ gives Chained (whole 7) Blank ∷ refuses (NoCoverage (pos 7)) Blank ∷ refuses (Unsupported (pos 1)) Blank ∷ []
+unfolding askedBy forwardIn recall lastIn markedTo others settled refusedAnswer finiteState zeroState le neg isNan ofInt ofBits chained differenceOf toZero walkFrom stepFrom stepIn look met plusState minusState add sub
+chain-cases = refl
+
+-- same-body zeros are turned like any other state: nine times -1 make them -0; in J2000 and without a frame they stand; a refusal stays;
+-- 15 is asked of the turned state
+pub turned-cases :
+    map (λ (a : Asked). a .answer)
+    (askedIn 6 evaluate six-of 6 Blank (pair 5 5 nan) (In EclipJ2000) (matrix 3 (λ i j. neg (whole 1)))
+    ∷ askedIn 6 evaluate six-of 6 Blank (pair 5 5 nan) (In J2000) (matrix 3 (λ i j. neg (whole 1)))
+    ∷ askedIn 6 evaluate six-of 6 Blank (pair 5 5 nan) AsItStands (matrix 3 (λ i j. neg (whole 1)))
+    ∷ askedIn 6 evaluate six-of 6 Blank (pair 8 9 (whole 3)) (In EclipJ2000) (matrix 3 (λ i j. neg (whole 1)))
+    ∷ askedIn 6 evaluate six-of 6 Blank (pair 3 0 (whole 3)) (In EclipJ2000) (matrix 3 (λ i j. whole 1))
+    ∷ askedIn 6 evaluate six-of 6 Blank (pair 3 0 (whole 3)) (In EclipJ2000) (matrix 3 (λ i j. inf false))
+    ∷ [])
+    ≡ answerOf Same (six (neg +0)) ∷ answerOf Same (six +0) ∷ answerOf Same (six +0) ∷ refusedAnswer (Unsupported (pos 1)) ∷ answerOf (Forward 2) (six (whole 12)) ∷ refusedAnswer NotFinite ∷ []
+unfolding askedBy forwardIn recall lastIn markedTo others settled sameAnswer refusedAnswer finiteState zeroState le neg isNan ofInt ofBits turnedTo turnedBetween add mul
+turned-cases = refl
+
+-- a segment alone, covering or not: 14, 10, 17, its own refusal, 15
+pub alone-cases :
+    aloneAnswer 6 evaluate six-of 6 0 (whole 99) ∷ aloneAnswer 6 evaluate six-of 7 9 nan ∷ aloneAnswer 6 evaluate six-of 6 9 nan ∷ aloneAnswer 6 evaluate six-of 6 6 (whole 3)
+    ∷ aloneAnswer 6 evaluate six-of 6 4 (whole 3) ∷ aloneAnswer 6 evaluate six-of 6 5 (whole 3) ∷ []
+    ≡ answerOf (Forward 0) (six (whole 1)) ∷ refusedAnswer TableUnfit ∷ refusedAnswer EpochNan ∷ refusedAnswer NoSegment ∷ refusedAnswer (Unsupported (pos 1)) ∷ refusedAnswer NotFinite ∷ []
+unfolding aloneAnswer markedTo others settled refusedAnswer finiteState zeroState le isNan ofInt ofBits
+alone-cases = refl
+
+-- a run with the memory, and without: a remembered answer, one of another pair, a refusal, a reversed one, a segment alone
+abbrev asks : List Asking
+asks =
+    Plain (pair 3 0 (whole 3)) ∷ Plain (pair 3 0 (whole 4)) ∷ Plain (pair 399 3 (whole 8)) ∷ Plain (pair 8 9 (whole 3)) ∷ InFrame (pair 0 3 (whole 3)) AsItStands [] ∷ Single 3 (whole 3) ∷ Plain (pair 3 0 (whole 5)) ∷ []
+
+pub run-cases : run 6 evaluate six-of 6 Blank asks ≡ map (fresh 6 evaluate six-of 6) asks
+unfolding run askedBy forwardIn recall lastIn markedTo others settled negatedOf negatedState refusedAnswer finiteState zeroState le neg isNan ofInt ofBits aloneAnswer
+run-cases = refl
