@@ -91,7 +91,7 @@ pub fn put_oriented(out: &mut [u8], i: usize, a: Oriented) -> usize
 fn write_oriented(i: usize, a: Oriented) -> bool {
     let mut line = [0u8; 145];
     let n = put_oriented(&mut line, i, a);
-    streams::write(&line[..n])
+    streams::write(&line, n)
 }
 
 // Writes a line for each question.

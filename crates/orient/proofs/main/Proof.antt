@@ -1,18 +1,8 @@
 -- `orient::main` is safe: what was read stands at the start of its buffer. Assumes nothing.
-use mathlib.Core.Path.{_≡_, subst}
-use mathlib.Core.List.{List}
-use Prim.Native.Nat.{ℕ}
-use Rattle.io.specs.Counts.{Counts}
-use Rattle.streams.specs.declared.Input.{Input}
-use Rattle.streams.specs.declared.Input.the-variants.{Bytes}
-use Rattle.streams.specs.Input.{Within}
+use Rattle.streams.proofs.Counted.{counted}
 use borrow.Author.Needs.{needs}
 use Rattle.orient.proofs.main.Statement.{statement}
 use Rattle.orient.proofs.main.Tie as tie
-
--- the bytes that were read
-counted : (i : Input) (n : ℕ) (buf : List ℕ) → i ≡ Bytes n → Within i buf → Counts n buf
-counted i n buf e w = subst (λ (x : Input). Within x buf) e w
 
 arg-count-requires : tie.Need-arg-count-requires
 arg-count-requires c κs = search needs

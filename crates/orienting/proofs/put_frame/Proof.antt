@@ -1,11 +1,9 @@
 -- `orienting::put_frame` meets its contract: a space, then the frame, which is widened. Assumes nothing.
-use mathlib.Core.Path.{_≡_, sym, ap, _∙_, subst}
-use mathlib.Core.List.{List, [], _∷_, _++_}
+use mathlib.Core.Path.{subst}
+use mathlib.Core.List.{[], _∷_, _++_}
 use native.Mathlib.Omega.{arith}
 use lib.IntN.{ℤ}
-use mir.Syntax.{w32, w64}
-use mir.Val.{SFits, toZ, ofZ}
-use mir.Facts.{toZ-ofZ, sfits-widen}
+use Rattle.refusal.proofs.Widened.{whole-fits, whole}
 use Rattle.lines.specs.Text.{space, signedText}
 use Rattle.lines.specs.Written.{Written}
 use Rattle.lines.proofs.Texts.{then}
@@ -13,13 +11,6 @@ use Rattle.orienting.specs.Lines.{frameText}
 use borrow.Author.Needs.{needs}
 use Rattle.orienting.proofs.put_frame.Statement.{statement}
 use Rattle.orienting.proofs.put_frame.Tie as tie
-
--- a frame, widened
-whole-fits : (z : ℤ) → SFits w32 z → SFits w64 (toZ w32 (ofZ w32 z))
-whole-fits z f = subst (SFits w64) (sym (toZ-ofZ f)) (sfits-widen tt f)
-
-whole : (z : ℤ) → SFits w32 z → toZ w64 (ofZ w64 (toZ w32 (ofZ w32 z))) ≡ z
-whole z f = toZ-ofZ (whole-fits z f) ∙ toZ-ofZ f
 
 slice-aggregate-put : tie.Need-slice-aggregate-put
 slice-aggregate-put c = search needs
