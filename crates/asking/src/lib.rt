@@ -80,7 +80,7 @@ fn refused(refusal: Refusal) -> Opened
 }
 
 // The kernel or the questions are over a program's limit.
-fn over(kernel: &[u8], asked: &[u8]) -> bool
+pub fn over(kernel: &[u8], asked: &[u8]) -> bool
     ensures { λ r. ⌜ r ≡ tooLong (now (kernel .entry)) (now (asked .entry)) ⌝ }
 {
     streams::too_long(kernel.len()) || streams::too_long(asked.len())

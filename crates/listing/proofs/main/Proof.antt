@@ -1,17 +1,15 @@
 -- `listing::main` is safe: what was read lies within the buffer. Assumes nothing.
-use mathlib.Core.Path.{subst}
 use Rattle.io.specs.Counts.{Counts}
-use Rattle.streams.specs.Input.{Within}
-use Rattle.streams.specs.declared.Input.{Input}
+use Rattle.streams.proofs.Counted.{counted}
 use borrow.Author.Needs.{needs}
 use Rattle.listing.proofs.main.Statement.{statement}
 use Rattle.listing.proofs.main.Tie as tie
 
 -- how many bytes were read
-counted : (c : tie.After-input) → Counts (c .input .given .0 .0) (c .before .before .before .read-standard .last .0)
-counted c =
+read : (c : tie.After-input) → Counts (c .input .given .0 .0) (c .before .before .before .read-standard .last .0)
+read c =
     let r = c .before .before .before .read-standard in
-    subst (λ (i : Input). Within i (r .last .0)) (c .input .given .1) (r .ensures)
+    counted (r .result) (c .input .given .0 .0) (r .last .0) (c .input .given .1) (r .ensures)
 
 arg-count-requires : tie.Need-arg-count-requires
 arg-count-requires c κs = search needs
@@ -35,10 +33,10 @@ enum-known-input : tie.Need-enum-known-input
 enum-known-input c = search needs
 
 array-share-prefix-kernel : tie.Need-array-share-prefix-kernel
-array-share-prefix-kernel c = counted (c .before) .0
+array-share-prefix-kernel c = read (c .before) .0
 
 slice-aggregate-list : tie.Need-slice-aggregate-list
-slice-aggregate-list c = counted (c .before .before) .1
+slice-aggregate-list c = read (c .before .before) .1
 
 list-requires : tie.Need-list-requires
 list-requires c κs = search needs
