@@ -21,6 +21,11 @@ pub struct Leg {
     pub total: State,
 }
 
+impl Leg {
+    // The most steps of a walk.
+    pub const STEPS: u32 = 32;
+}
+
 // A segment that leaves the current body: the body that it goes to, and its state.
 pub struct Hop {
     pub center: i32,
@@ -210,5 +215,5 @@ pub fn state_wrt_ssb(kernel: &[u8], table: Table, leg: Leg) -> Evaluated
         let total = leg.total;
         return Evaluated::State(total);
     }
-    walk(kernel, table, leg, 32)
+    walk(kernel, table, leg, Leg::STEPS)
 }

@@ -5,9 +5,14 @@ use mathlib.Core.List.{List}
 use lib.Ieee.{Float}
 use Rattle.frame.specs.Frame.{Matrix}
 use Rattle.daf.specs.declared.Family.the-variants.{Spk}
+use Rattle.segment.specs.declared.Evaluated.{Evaluated}
 use Rattle.segment.specs.Evaluating.{evaluated}
 use Rattle.table.specs.declared.Table.{Table}
 use Rattle.table.specs.Places.{tableLimit}
+use Rattle.table.specs.Marks.{marks}
+use Rattle.table.specs.Naming.{nameAt}
+use Rattle.chain.specs.declared.Leg.{Leg}
+use Rattle.chain.specs.Walk.{toZero}
 use Rattle.spk.specs.declared.Question.{Question}
 use Rattle.spk.specs.declared.Memory.{Memory}
 use Rattle.spk.specs.declared.Wanted.{Wanted}
@@ -40,3 +45,14 @@ module _ (k : List ℕ) (t : Table) (m : Memory) (q : Question) (wanted : Wanted
 -- `turned`
 pub two-turned : (wanted : Wanted) (rot : Matrix) (a r r' : Answer) → r ≡ turnedAnswer wanted rot a → r' ≡ turnedAnswer wanted rot a → r ≡ r'
 two-turned wanted rot a r r' = two _ r r'
+
+-- `marked_all` and `name` of the table, and `state_wrt_ssb` of the chain
+pub two-marked : (t r r' : Table) → r ≡ marks t → r' ≡ marks t → r ≡ r'
+two-marked t r r' = two _ r r'
+
+pub two-names : (k : List ℕ) (t : Table) (i : ℕ) (r r' : List ℕ) → r ≡ nameAt tableLimit k (t .segments) (t .count) i → r' ≡ nameAt tableLimit k (t .segments) (t .count) i → r ≡ r'
+two-names k t i r r' = two _ r r'
+
+pub two-walks : (k : List ℕ) (t : Table) (leg : Leg) (r r' : Evaluated) → r ≡ toZero (evaluated Spk k) (t .segments) (t .count) leg
+    → r' ≡ toZero (evaluated Spk k) (t .segments) (t .count) leg → r ≡ r'
+two-walks k t leg r r' = two _ r r'

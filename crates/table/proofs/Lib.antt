@@ -2,3 +2,4 @@
 pub mod Marks
 pub mod Last
 pub mod Names
+pub mod Cases

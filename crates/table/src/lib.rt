@@ -9,7 +9,7 @@ use segment::Segment;
 
 // The segments of an opened kernel, in file order: those below the count.
 pub struct Table {
-    pub segments: [Segment; 256],
+    pub segments: [Segment; Table::PLACES],
     pub count: usize,
 }
 
@@ -22,7 +22,7 @@ impl Table {
         ensures { λ r. ⌜ r ≡ emptyTable ⌝ }
     {
         Table {
-            segments: [Segment::EMPTY; 256],
+            segments: [Segment::EMPTY; Table::PLACES],
             count: 0,
         }
     }
