@@ -80,6 +80,10 @@ pub fn read_argument(i: usize, what: &[u8], buf: &mut [u8]) -> Input
         os::fail(what);
         return Input::Unreadable;
     }
+    if n == 0 {
+        complain(b"an empty file name\n");
+        return Input::Unreadable;
+    }
     read_file(&name[..n], buf)
 }
 
