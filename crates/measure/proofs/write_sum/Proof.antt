@@ -14,17 +14,17 @@ put-state-requires c κs = search needs
 array-share-prefix-line : tie.Need-array-share-prefix-line
 array-share-prefix-line c = search needs
 
-slice-aggregate-write : tie.Need-slice-aggregate-write
-slice-aggregate-write c = let put = c .before .before .put-state in counts (put .result) (put .last .0) (omega arith) .1
+slice-aggregate-write-all : tie.Need-slice-aggregate-write-all
+slice-aggregate-write-all c = let put = c .before .before .put-state in counts (put .result) (put .last .0) (omega arith) .1
 
-write-requires : tie.Need-write-requires
-write-requires c κs = search needs
+write-all-requires : tie.Need-write-all-requires
+write-all-requires c κs = search needs
 
-slice-aggregate-write-2 : tie.Need-slice-aggregate-write-2
-slice-aggregate-write-2 c = search needs
+slice-aggregate-write-all-2 : tie.Need-slice-aggregate-write-all-2
+slice-aggregate-write-all-2 c = search needs
 
-write-requires-2 : tie.Need-write-requires-2
-write-requires-2 c κs = search needs
+write-all-requires-2 : tie.Need-write-all-requires-2
+write-all-requires-2 c κs = search needs
 
 returns : tie.Need-returns
 returns c = search needs
@@ -36,8 +36,8 @@ write-sum-spec =
     slice-aggregate-put-state
     put-state-requires
     array-share-prefix-line
-    slice-aggregate-write
-    write-requires
-    slice-aggregate-write-2
-    write-requires-2
+    slice-aggregate-write-all
+    write-all-requires
+    slice-aggregate-write-all-2
+    write-all-requires-2
     returns)
