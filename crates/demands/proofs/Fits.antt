@@ -83,6 +83,6 @@ fits f k t e i h et bad =
     let n : t .count ≡ length (placesOf k) = sym (ap (λ (x : Table). x .count) (a .1)) ∙ count-marked f (tableOf (segmentsOf f k)) ∙ length-map (segmentAt f k) (placesOf k) in
     let p = passed f k (replicate (tableLimit - length (segmentsOf f k)) emptySegment) (placesOf k) i (omega arith) all in
     let d : SameData (segmentAt f k (p .at)) (seg (t .segments) i) =
-          subst (λ (s : Segment). SameData s (seg (t .segments) i)) (p .is)
-          (subst (λ (x : Table). SameData (seg (tableOf (segmentsOf f k) .segments) i) (seg (x .segments) i)) (a .1) (read-data f (tableOf (segmentsOf f k)) i)) in
+    subst (λ (s : Segment). SameData s (seg (t .segments) i)) (p .is)
+    (subst (λ (x : Table). SameData (seg (tableOf (segmentsOf f k) .segments) i) (seg (x .segments) i)) (a .1) (read-data f (tableOf (segmentsOf f k)) i)) in
     opened-fits f k (summaryOf f k (p .at)) (segmentAt f k (p .at)) (seg (t .segments) i) (judged-fine f k (summaryOf f k (p .at)) (p .fine)) d i et bad
