@@ -1,17 +1,18 @@
 #!/usr/bin/env python3
-"""stored.py FOLDER [SEED]: a sample of the Rust's answers for the gate, which has no Rust.
+"""stored.py FOLDER [--seed N] [--spk]: a sample of the Rust's answers for the gate, which has no Rust.
 
-Writes 0.cases, 1.cases, ... of at most 65,536 bytes each, and `stdout`: the lines that a program must print which
-goes through them. A file is a run of blocks: three words of four bytes (0 ask, 1 ask turned, 2 orient; the kernel's
-length; the questions' length), 72 bytes of matrix if turned, kernel, questions; all little-endian. A block's lines
-are what `ask` or `orient` prints about it. The kernels are small ones of gen.py's kinds: every type, every way,
-chains of 32 and 33 steps, one kernel for each opening refusal. Answers are the Rust's; refusals as in compare.py.
+Writes what the program `cases` (FOLDER is crates/cases) is run on: data/0.cases, data/1.cases, ... of at most 65,536
+bytes each, their names in `args`, and `stdout`: the lines that it must print. A file is a run of blocks: three words
+of four bytes (0 ask, 1 ask turned, 2 orient; the kernel's length; the questions' length), 72 bytes of matrix if
+turned, kernel, questions; all little-endian. A block's lines are what `ask` or `orient` prints about it. The kernels
+are small ones of gen.py's kinds: every type, every way, chains of 32 and 33 steps, one kernel for each opening
+refusal, and one whose questions are no records. Answers are the Rust's; refusals as in compare.py. With --spk the
+blocks of `orient` are left out.
 """
 
 import argparse
 import os
 import struct
-import sys
 import tempfile
 
 import damaged
@@ -82,6 +83,8 @@ def refused(cases, chance):
         for kernel, aimed in smallest.values():
             add("refused", kernel, asked, aimed)
     cases.spk("refused", crowded(), ask_record(399, 3, 1.0), "refused 8 0")
+    for asked in (ask_record(1000, 0, 1.0)[:-1], orient_record(1000, 1.0), ask_record(1000, 0, 1.0) + b"\xa5"):
+        cases.add("refused", "ask", line(1).bytes, asked, "refused 19 0")
 
 
 def block(case):
@@ -95,27 +98,40 @@ def block(case):
 
 
 def main():
-    folder, seed = sys.argv[1], int(sys.argv[2]) if len(sys.argv) > 2 else 1
-    os.makedirs(folder, exist_ok=True)
-    comparison = Comparison(argparse.Namespace(oracle=os.path.join(HERE, "target/release/oracle")))
-    files, lines = [b""], []
+    parser = argparse.ArgumentParser(description=__doc__, formatter_class=argparse.RawDescriptionHelpFormatter)
+    parser.add_argument("folder")
+    parser.add_argument("--seed", type=int, default=1)
+    parser.add_argument("--spk", action="store_true")
+    parser.add_argument("--oracle", default=os.path.join(HERE, "target/release/oracle"))
+    options = parser.parse_args()
+    comparison = Comparison(options)
+    files, lines, blocks = [b""], [], 0
     with tempfile.TemporaryDirectory() as work:
         cases = Cases(work)
-        answered(cases, Chance(seed))
-        refused(cases, Chance(seed + 1))
+        answered(cases, Chance(options.seed))
+        refused(cases, Chance(options.seed + 1))
         for case in (Case(work, text) for text in cases.lines):
-            lines += comparison.wanted(case) if case.expect == "accepted" else [case.expect]
+            if options.spk and case.program == "orient":
+                continue
+            if case.expect == "accepted":
+                lines += comparison.wanted(case)
+            else:
+                comparison.count(case.expect)
+                lines.append(case.expect)
             files = files if len(files[-1]) + len(block(case)) <= LIMIT else files + [b""]
             files[-1] += block(case)
+            blocks += 1
     if comparison.failures:
         raise SystemExit("the Rust's answers don't fit the tags")
+    os.makedirs(os.path.join(options.folder, "data"), exist_ok=True)
     for i, data in enumerate(files):
-        with open(os.path.join(folder, f"{i}.cases"), "wb") as f:
+        with open(os.path.join(options.folder, "data", f"{i}.cases"), "wb") as f:
             f.write(data)
-    with open(os.path.join(folder, "stdout"), "w") as f:
-        f.write("".join(text + "\n" for text in lines))
+    for name, written in (("args", [f"{i}.cases" for i in range(len(files))]), ("stdout", lines)):
+        with open(os.path.join(options.folder, name), "w") as f:
+            f.write("".join(text + "\n" for text in written))
     counts = ", ".join(f"{n} {name}" for name, n in sorted(comparison.counts.items()) if n)
-    print(f"{len(cases.lines)} blocks in {len(files)} files, {len(lines)} lines: {counts}")
+    print(f"{blocks} blocks in {len(files)} files, {len(lines)} lines: {counts}")
 
 
 if __name__ == "__main__":
