@@ -1,12 +1,13 @@
 #!/usr/bin/env python3
-"""compare.py FOLDER [--ask PROGRAM] [--orient PROGRAM] [--listing PROGRAM] [--alone PROGRAM] [--run WORDS] [--oracle PROGRAM]
+"""compare.py FOLDER [--ask PROGRAM] [--orient PROGRAM] [--listing PROGRAM] [--cases PROGRAM] [--run WORDS] [--oracle PROGRAM]
 
 Holds our programs against the given Rust on the cases that gen.py wrote to FOLDER. WORDS start a program
-for x86-64 (`qemu-x86_64`, where the machine is another); PROGRAM may be several words. Without a program its part is only tried on the
-Rust's side, and the counts say so. What our programs have to print comes from the tag and the Rust's lines:
+for x86-64 where the machine is another; PROGRAM may be several words. Without a program its part is only tried on the
+Rust's side, the counts say so, and no answer of it is counted as compared. Segments asked by their number, and tables of
+another kernel, go through `cases`. What our programs have to print comes from the tag and the Rust's lines:
 
 - opening tagged refused: that refusal line alone, whatever the Rust does; its doing is counted.
-- NaN epoch: 10. A segment asked by its number that doesn't exist: 17. The Rust's error of coverage, type, RADIUS: 11, 12, 13 with the detail it names.
+- NaN epoch: 10. A segment asked by its number that doesn't exist: 17. One that the table doesn't fit: 14. The Rust's error of coverage, type, RADIUS: 11, 12, 13 with the detail it names.
 - six numbers of which one is not finite: 15. Six finite numbers: the Rust's own line, to the bit.
 - anything else of the Rust on an accepted kernel (a panic, another error) is a failure of the comparison.
   Where a degree would wrap in it, it is asked about the twin that gen.py wrote.
@@ -20,6 +21,9 @@ import shlex
 import struct
 import subprocess
 import sys
+import tempfile
+
+from opening import summaries, walk
 
 NUMBERED_REFUSALS = False  # whether a refused question's line begins with the question's number
 HERE = os.path.dirname(os.path.abspath(__file__))
@@ -29,27 +33,56 @@ class Case:
     """A line of the index and its files."""
 
     def __init__(self, folder, line):
-        self.number, self.family, self.program, self.expect, self.departs = line.split("\t")
+        self.number, self.family, self.program, self.expect, self.note = line.split("\t")
         self.base = os.path.join(folder, self.number)
+        self.unfit = set(map(int, self.note.split()[1:])) if self.note.startswith("unfit") else set()
 
     def path(self, suffix):
         return f"{self.base}.{suffix}"
 
+    def read(self, suffix):
+        """A file's bytes, none if it isn't there."""
+        if not os.path.exists(self.path(suffix)):
+            return b""
+        with open(self.path(suffix), "rb") as f:
+            return f.read()
+
     def matrix(self):
         return [self.path("matrix")] if os.path.exists(self.path("matrix")) else []
+
+    def forged(self):
+        return os.path.exists(self.path("origin"))
+
+    def block(self):
+        """This case as the program `cases` reads it."""
+        parts = [self.read(suffix) for suffix in ("origin", "kernel", "questions")]
+        kind = {"orient": 2, "alone": 3}.get(self.program, 1 if self.matrix() else 0)
+        return struct.pack("<4I", kind, *map(len, parts)) + self.read("matrix") + b"".join(parts)
 
     def rust_kernel(self):
         twin = self.path("twin")
         return twin if os.path.exists(twin) else self.path("kernel")
 
     def questions(self, count):
-        """(same body, segment that doesn't exist, epoch) of each question to a kernel of so many segments."""
-        with open(self.path("questions"), "rb") as f:
-            data = f.read()
+        """(same body, segment that doesn't exist, epoch, the segment if the question tells) of each question to a kernel of so many segments."""
+        data = self.read("questions")
         if self.program == "ask":
-            return [(target == center, False, et) for _, _, target, center, et in struct.iter_unpack("<BBiid", data)]
-        alone = self.program == "alone"
-        return [(False, alone and number >= count, et) for _, _, number, et in struct.iter_unpack("<BBId", data)]
+            return [(target == center, False, et, None) for _, _, target, center, et in struct.iter_unpack("<BBiid", data)]
+        if self.program == "alone":
+            return [(False, number >= count, et, number) for _, _, number, et in struct.iter_unpack("<BBId", data)]
+        chosen = chooser(self.read("origin")) if self.unfit else lambda body, et: None
+        return [(False, False, et, chosen(body, et)) for _, _, body, et in struct.iter_unpack("<BBid", data)]
+
+
+def chooser(kernel):
+    """The last covering segment of a body frame in a PCK kernel: a line of `orient` doesn't tell."""
+    held = [struct.unpack_from("<2di", kernel, place) for place in summaries(kernel, walk(kernel))]
+
+    def chosen(body, et):
+        covering = [i for i, (first, last, frame) in enumerate(held) if frame == body and first <= et <= last]
+        return covering[-1] if covering else None
+
+    return chosen
 
 
 def run(words, stdin=None):
@@ -77,9 +110,16 @@ def refusal(index, number, detail=0):
     return f"{index} " * NUMBERED_REFUSALS + f"refused {number} {detail}"
 
 
-def expected(index, question, rust):
+def refuses_fit(words, segment, unfit):
+    """The segment that the Rust's line is about doesn't fit the table; a type that is not supported, or no segment, comes before that."""
+    if words[1] in ("forward", "reversed") or words[1:3] == ["error", "radius"]:
+        segment = int(words[3] if words[1] == "error" else words[2])
+    return segment in unfit and words[1:3] not in (["error", "type"], ["error", "coverage"])
+
+
+def expected(index, question, rust, unfit=frozenset()):
     """Our line for a question from the Rust's line, or None where the Rust says nothing that counts."""
-    same, missing, et = question
+    same, missing, et, segment = question
     if math.isnan(et) and not same:
         return refusal(index, 10)
     if missing:
@@ -87,6 +127,8 @@ def expected(index, question, rust):
     words = rust.split(" ")
     if words[0] != str(index):
         return None
+    if refuses_fit(words, segment, unfit):
+        return refusal(index, 14)
     if words[1] == "error" and words[2] in REFUSED and len(words) == 4:
         return refusal(index, REFUSED[words[2]], words[3])
     if words[1] in ("error", "panic"):
@@ -106,16 +148,21 @@ class Comparison:
         if self.failures <= 20:
             print(f"case {case.number} ({case.family}): {text}")
 
-    def count(self, line, program="", turned=False, wraps=False):
+    def has(self, case):
+        """Whether there is a program of ours for a case."""
+        return getattr(self.options, "cases" if case.forged() or case.program == "alone" else case.program, None)
+
+    def count(self, line, case):
         """An expected line into the counts."""
         if "refused " in line:
             self.counts[f"refusal {line.split('refused ')[1].split(' ')[0]}"] += 1
-        else:
-            self.counts["answers"] += 1
-            way = line.split(" ")[1]
-            self.counts[f"answers {way if way in WAYS else program}"] += 1
-            self.counts["answers turned"] += turned
-            self.counts["answers with the degree that wraps"] += wraps
+            return
+        self.counts["answers compared" if self.has(case) else "answers of the Rust alone"] += 1
+        way = line.split(" ")[1]
+        self.counts[f"answers: {'segments alone' if case.program == 'alone' else way if way in WAYS else case.program}"] += 1
+        self.counts["answers: turned"] += bool(case.matrix())
+        self.counts["answers: with a degree that wraps in the Rust"] += case.note == "degree wraps"
+        self.counts["answers: with the table of another kernel"] += case.forged()
 
     def rust(self, *words):
         return run([self.options.oracle, *words])
@@ -123,6 +170,17 @@ class Comparison:
     def ours(self, program, words, stdin=None):
         name = getattr(self.options, program)
         return run([*shlex.split(self.options.run), *shlex.split(name), *words], stdin) if name else None
+
+    def replayed(self, case):
+        """What our program prints about a case: its own program, or `cases` where that takes no such input."""
+        if not case.forged() and case.program != "alone":
+            return self.ours(case.program, [case.path("kernel"), case.path("questions"), *case.matrix()])
+        with tempfile.NamedTemporaryFile() as f:
+            f.write(case.block())
+            f.flush()
+            if f.tell() > 65536:
+                self.fail(case, "a block of more than 65,536 bytes")
+            return self.ours("cases", [f.name])
 
     def hold(self, case, program, want, got):
         """Our lines against the expected ones."""
@@ -138,8 +196,14 @@ class Comparison:
                 break
 
     def asked_rust(self, case):
-        """What the Rust prints about a case's questions; the first line is the opening."""
-        return self.rust(case.program, case.rust_kernel(), case.path("questions"), *case.matrix())
+        """What the Rust prints about a case's questions; the first line is the opening. A table of another kernel: the Rust has the file
+        that it opened mapped, and the kernel's bytes are written over it."""
+        if not case.forged():
+            return self.rust(case.program, case.rust_kernel(), case.path("questions"), *case.matrix())
+        with tempfile.NamedTemporaryFile() as f:
+            f.write(case.read("origin"))
+            f.flush()
+            return self.rust("forged", case.rust_kernel(), case.program, f.name, case.path("questions"))
 
     def wanted(self, case):
         """Our lines for an accepted kernel."""
@@ -150,11 +214,11 @@ class Comparison:
         lines = []
         for i, question in enumerate(case.questions(int(rust[0].split(" ")[1]))):
             said = rust[i + 1] if i + 1 < len(rust) else ""
-            line = expected(i, question, said)
+            line = expected(i, question, said, case.unfit)
             if line is None:
                 self.fail(case, f"question {i}, the Rust: {said or rust[-1]}")
             else:
-                self.count(line, case.program, bool(case.matrix()), bool(case.departs))
+                self.count(line, case)
             lines.append(line)
         return lines
 
@@ -168,19 +232,18 @@ class Comparison:
         if doing == "opens":
             doing += ", then panics" if panics else ", then answers" if answers else ", then answers nothing"
         self.departures[(int(number), case.program, doing)] += 1
-        self.count(case.expect)
+        self.count(case.expect, case)
         return [case.expect]
 
     def listing(self, case):
-        if case.program == "orient":
+        if case.program == "orient" or case.forged():
             return
         want = [case.expect]
         if case.expect == "accepted":
             want = self.rust("listing", case.rust_kernel())
             if not want[0].startswith("segments "):
                 self.fail(case, f"the Rust's listing: {want[0]}")
-        with open(case.path("kernel"), "rb") as f:
-            self.hold(case, "listing", want, self.ours("listing", [], f.read()))
+        self.hold(case, "listing", want, self.ours("listing", [], case.read("kernel")))
 
     def case(self, case):
         by_program = case.expect == "" or case.expect.split(" ")[1:2] in (["18"], ["19"]) or case.family.startswith("19")
@@ -191,8 +254,7 @@ class Comparison:
             want = self.wanted(case)
         else:
             want = self.refused(case)
-        words = [case.path("kernel"), case.path("questions"), *case.matrix()]
-        self.hold(case, case.program, want, self.ours(case.program, words))
+        self.hold(case, case.program, want, self.replayed(case))
         if not by_program:
             self.listing(case)
 
@@ -202,13 +264,13 @@ class Comparison:
         print("What the Rust does where document 01 refuses the opening:")
         for (number, program, doing), n in sorted(self.departures.items()):
             print(f"{n:8} refusal {number}, {program}: {doing}")
-        print(f"{self.counts['answers']} answers, {self.failures} failures")
+        print(f"{self.counts['answers compared']} answers compared bit for bit, {self.failures} failures")
 
 
 def main():
     parser = argparse.ArgumentParser(description=__doc__, formatter_class=argparse.RawDescriptionHelpFormatter)
     parser.add_argument("folder")
-    for program in ("ask", "orient", "listing", "alone"):
+    for program in ("ask", "orient", "listing", "cases"):
         parser.add_argument(f"--{program}")
     parser.add_argument("--run", default="")
     parser.add_argument("--oracle", default=os.path.join(HERE, "target/release/oracle"))

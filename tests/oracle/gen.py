@@ -3,8 +3,9 @@
 
 Writes N.kernel, N.questions and where there is one N.matrix, and index.tsv with a line for each case:
 number, family, program, what document 01 demands of the opening (`accepted`, `refused N D`, or the whole
-output of a program that refuses its input), and the departure of the Rust where one is known ahead:
-`degree wraps`, where the Rust is asked about N.twin with a degree that doesn't.
+output of a program that refuses its input), and a note: `degree wraps`, where the Rust is asked about N.twin
+with a degree that doesn't; or `unfit` and numbers of segments, where the table is made from N.origin and
+these segments then don't fit N.kernel (the Rust's kernel is N.twin, whose trailers and length are the origin's).
 A case whose opening is accepted lies in demand 2's domain: each answer of six finite numbers must have the Rust's bits.
 """
 
@@ -14,6 +15,7 @@ import subprocess
 import sys
 
 import damaged
+import forged
 from kernels import INF, NAN, Chance, Kernel, ask_record, double, orient_record
 from opening import opening, unwrapped
 from valid import (BODIES, UNSUPPORTED, alone, chain, layout_of, mixed, orientations, overlaps, pck_mixed, planets,
@@ -35,14 +37,12 @@ class Cases:
         with open(os.path.join(self.folder, f"{len(self.lines)}.{suffix}"), "wb") as f:
             f.write(data)
 
-    def add(self, family, program, kernel, asked, expect, departs="", matrix=None, twin=None):
-        self.file("kernel", kernel)
-        self.file("questions", asked)
-        if matrix is not None:
-            self.file("matrix", matrix)
-        if twin is not None:
-            self.file("twin", twin)
-        self.lines.append("\t".join((str(len(self.lines)), family, program, expect, departs)))
+    def add(self, family, program, kernel, asked, expect, note="", **more):
+        """`more` is what there is of matrix, twin and origin."""
+        for suffix, data in {"kernel": kernel, "questions": asked, **more}.items():
+            if data is not None:
+                self.file(suffix, data)
+        self.lines.append("\t".join((str(len(self.lines)), family, program, expect, note)))
 
     def spk(self, family, kernel, asked, aimed=None, program="ask", **more):
         """A case whose tag comes from the bytes and must be the one aimed at."""
@@ -115,6 +115,16 @@ def by_number(cases, chance, scale):
     for _ in range(30 * scale):
         k = mixed(chance, chance.between(1, 12), HANDLED * 3 + [chance.pick(UNSUPPORTED)], BODIES[:6])
         cases.spk("alone", k.bytes, alone(chance, k.segments, 160), program="alone")
+
+
+def of_others(cases, chance, rounds, room=1500, count=160):
+    """Tables of another kernel; two kernels of so many doubles and the questions go into one block."""
+    for _ in range(rounds):
+        for program, origin, kernel, twin, asked, unfit in forged.forgeries(chance, room, count):
+            kind = "pck" if program == "orient" else "spk"
+            check("forged", None, opening(origin, kind), origin)
+            note = " ".join(["unfit", *map(str, sorted(unfit))])
+            cases.add(f"forged {program}", program, kernel, asked, "accepted", note, twin=twin, origin=origin)
 
 
 def chains(cases, chance, scale):
@@ -225,7 +235,7 @@ def main():
     cases = Cases(folder)
     families = [lambda c: accepted_spk(cases, c, scale), lambda c: chains(cases, c, scale), lambda c: large(cases, c), lambda c: wrapped(cases, c)]
     families += [lambda c: accepted_pck(cases, c, scale), lambda c: refusals(cases, c, scale), lambda c: programs(cases, c)]
-    families += [lambda c: written(cases, c, scale), lambda c: by_number(cases, c, scale)]
+    families += [lambda c: written(cases, c, scale), lambda c: by_number(cases, c, scale), lambda c: of_others(cases, c, 20 * scale)]
     for i, family in enumerate(families):
         family(Chance(seed * 1000 + i))
     cases.close()

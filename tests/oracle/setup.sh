@@ -24,6 +24,10 @@ if [ -n "$missing" ]; then
   DEBIAN_FRONTEND=noninteractive apt-get install -y -qq --no-install-recommends $missing
 fi
 
+if [ ! -d "$SPICEKIT" ]; then
+  echo "no checkout of the given Rust at $SPICEKIT: SPICEKIT names its src folder" >&2
+  exit 1
+fi
 if ! (cd "$SPICEKIT" && sha256sum --check --quiet "$here/given.sha256"); then
   echo "the checkout at $SPICEKIT is not the pinned text: see given.sha256" >&2
   exit 1

@@ -1,13 +1,14 @@
 #!/usr/bin/env python3
-"""stored.py FOLDER [--seed N] [--spk]: a sample of the Rust's answers for the gate, which has no Rust.
+"""stored.py FOLDER [--seed N]: a sample of the Rust's answers for the gate, which has no Rust.
 
 Writes what the program `cases` (FOLDER is crates/cases) is run on: data/0.cases, data/1.cases, ... of at most 65,536
-bytes each, their names in `args`, and `stdout`: the lines that it must print. A file is a run of blocks: three words
-of four bytes (0 ask, 1 ask turned, 2 orient; the kernel's length; the questions' length), 72 bytes of matrix if
-turned, kernel, questions; all little-endian. A block's lines are what `ask` or `orient` prints about it. The kernels
-are small ones of gen.py's kinds: every type, every way, chains of 32 and 33 steps, one kernel for each opening
-refusal, and one whose questions are no records. Answers are the Rust's; refusals as in compare.py. With --spk the
-blocks of `orient` are left out.
+bytes each, their names in `args`, and `stdout`: the lines that it must print. A file is a run of blocks: four words
+of four bytes (0 ask, 1 ask turned, 2 orient, 3 segments alone; the lengths of the kernel that the table is made from,
+0 if it is the kernel itself, of the kernel and of the questions), 72 bytes of matrix if turned, and the three parts;
+all little-endian. A block's lines are what `ask` or `orient` prints about it, or `forward S` of a segment alone. The
+kernels are small ones of gen.py's kinds: every type, every way, chains of 32 and 33 steps, tables of another kernel,
+one kernel for each opening refusal, and one whose questions are no records. Answers are the Rust's; refusals as in
+compare.py.
 """
 
 import argparse
@@ -17,9 +18,9 @@ import tempfile
 
 import damaged
 from compare import HERE, Case, Comparison
-from gen import Cases, eclip, turn
+from gen import Cases, eclip, of_others, turn
 from kernels import Chance, Kernel, Layout, Segment, ask_record, double, orient_record
-from valid import BODIES, mixed, orientations, pck_mixed, questions, states, wide_segment
+from valid import BODIES, alone, mixed, orientations, pck_mixed, questions, states, wide_segment
 
 TYPES = [2, 3, 9, 13] * 3 + [5]
 LIMIT = 65536
@@ -69,6 +70,10 @@ def answered(cases, chance):
     for _ in range(4):
         k = pck_mixed(chance, 6, [2], 500, Layout(cut=True))
         cases.pck("pck", k.bytes, orientations(chance, k.segments, 120))
+    for _ in range(2):
+        k = mixed(chance, 6, TYPES, BODIES[:5], 500, Layout(cut=True))
+        cases.spk("alone", k.bytes, alone(chance, k.segments, 120), program="alone")
+    of_others(cases, chance, 2, 400, 40)
 
 
 def refused(cases, chance):
@@ -87,21 +92,10 @@ def refused(cases, chance):
         cases.add("refused", "ask", line(1).bytes, asked, "refused 19 0")
 
 
-def block(case):
-    def read(suffix):
-        with open(case.path(suffix), "rb") as f:
-            return f.read()
-
-    kernel, asked, matrix = read("kernel"), read("questions"), b"".join(map(lambda _: read("matrix"), case.matrix()))
-    kind = 2 if case.program == "orient" else 1 if matrix else 0
-    return struct.pack("<3I", kind, len(kernel), len(asked)) + matrix + kernel + asked
-
-
 def main():
     parser = argparse.ArgumentParser(description=__doc__, formatter_class=argparse.RawDescriptionHelpFormatter)
     parser.add_argument("folder")
     parser.add_argument("--seed", type=int, default=1)
-    parser.add_argument("--spk", action="store_true")
     parser.add_argument("--oracle", default=os.path.join(HERE, "target/release/oracle"))
     options = parser.parse_args()
     comparison = Comparison(options)
@@ -111,15 +105,13 @@ def main():
         answered(cases, Chance(options.seed))
         refused(cases, Chance(options.seed + 1))
         for case in (Case(work, text) for text in cases.lines):
-            if options.spk and case.program == "orient":
-                continue
             if case.expect == "accepted":
                 lines += comparison.wanted(case)
             else:
-                comparison.count(case.expect)
+                comparison.count(case.expect, case)
                 lines.append(case.expect)
-            files = files if len(files[-1]) + len(block(case)) <= LIMIT else files + [b""]
-            files[-1] += block(case)
+            files = files if len(files[-1]) + len(case.block()) <= LIMIT else files + [b""]
+            files[-1] += case.block()
             blocks += 1
     if comparison.failures:
         raise SystemExit("the Rust's answers don't fit the tags")

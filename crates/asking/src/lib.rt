@@ -158,7 +158,7 @@ pub fn put_answer(out: &mut [u8], i: usize, answer: Answer) -> usize
 }
 
 // Writes the line of answer i to standard output. No contract can speak of what is written.
-fn write_answer(i: usize, answer: Answer) -> bool {
+pub fn write_answer(i: usize, answer: Answer) -> bool {
     let mut line = [0u8; 153];
     let n = put_answer(&mut line, i, answer);
     streams::write(&line, n)
@@ -180,10 +180,9 @@ fn write_answers(kernel: &[u8], table: Table, asked: &[u8], wanted: Wanted, rot:
     }
 }
 
-// Writes what a kernel replies to a file of questions: a refusal, or a line each. With a matrix of 72 bytes each state is asked in ECLIPJ2000.
-// No contract can speak of what is written.
-pub fn reply(kernel: &[u8], asked: &[u8], matrix: &[u8]) {
-    let opened = open(kernel, asked);
+// Writes what an opening comes to: its refusal, or a line for each question put to the kernel. With a matrix of 72 bytes each state is asked in
+// ECLIPJ2000. No contract can speak of what is written.
+pub fn tell(kernel: &[u8], opened: Opened, asked: &[u8], matrix: &[u8]) {
     let outcome = opened.outcome;
     let table = opened.table;
     match outcome {
@@ -200,4 +199,9 @@ pub fn reply(kernel: &[u8], asked: &[u8], matrix: &[u8]) {
             }
         }
     }
+}
+
+// Writes what a kernel replies to a file of questions: a refusal, or a line each. No contract can speak of what is written.
+pub fn reply(kernel: &[u8], asked: &[u8], matrix: &[u8]) {
+    tell(kernel, open(kernel, asked), asked, matrix);
 }

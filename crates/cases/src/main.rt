@@ -1,9 +1,23 @@
-// cases FILE..: replays stored cases, and writes of each what `ask` writes. A file is a run of blocks: three words (0 asked as it stands, 1 asked
-// in ECLIPJ2000; the kernel's length; the questions' length), 72 bytes of matrix if turned, kernel, questions. tests/oracle/stored.py makes the
-// files and the lines, which are the given Rust's.
+// cases FILE..: replays cases, and writes of each what `ask` or `orient` writes. A file is a run of blocks: four words (0 asked as it stands, 1 asked
+// in ECLIPJ2000, 2 a PCK kernel, 3 segments by their numbers; the lengths of the kernel that the table is made from, none if it is the kernel itself,
+// of the kernel and of the questions), 72 bytes of matrix if turned, and the three parts. tests/oracle/stored.py makes the stored files and their
+// lines, which are the given Rust's.
 ghost use Prim.Native.Nat.{_+_, _≤_};
 ghost use lib.ListN.{length};
+use daf::Family;
+use opening::Opened;
+use opening::Outcome;
+use records::Mark;
 use streams::Input;
+use table::Table;
+
+// A segment asked by its number: records as long as those of `orient`, behind the mark A5 5D.
+const SIZE: usize = 14;
+
+const MARK: Mark = Mark {
+    first: 0xa5,
+    second: 0x5d,
+};
 
 // The block's matrix has so many bytes.
 fn matrix_len(kind: u32) -> usize
@@ -12,24 +26,79 @@ fn matrix_len(kind: u32) -> usize
     if kind == 1 { asking::MATRIX } else { 0 }
 }
 
+// Writes a line for each segment asked by its number.
+fn write_each(kernel: &[u8], table: Table, asked: &[u8]) {
+    let n = asked.len() / SIZE;
+    let mut i: usize = 0;
+    while i < n {
+        let p = SIZE * i;
+        let number = bits::le_u32(asked, p + 2);
+        let et = bits::double_at(asked, p + 6);
+        if !asking::write_answer(i, spk::alone(kernel, table, number as usize, et)) {
+            return;
+        }
+        i += 1;
+    }
+}
+
+// Segments by their numbers: the refusal of the opening, or a line each.
+fn tell_alone(kernel: &[u8], opened: Opened, asked: &[u8]) {
+    let outcome = opened.outcome;
+    let table = opened.table;
+    match outcome {
+        Outcome::Refused(refusal) => {
+            streams::write_refusal(refusal);
+        }
+        Outcome::Accepted => write_each(kernel, table, asked),
+    }
+}
+
+// Puts the questions to a kernel with the table of `origin`.
+fn tell(kind: u32, matrix: &[u8], origin: &[u8], kernel: &[u8], asked: &[u8]) {
+    match kind {
+        0 => asking::tell(kernel, asking::open(origin, asked), asked, matrix),
+        1 => asking::tell(kernel, asking::open(origin, asked), asked, matrix),
+        2 => orienting::tell(kernel, orienting::open(origin, asked), asked),
+        3 => tell_alone(
+            kernel,
+            inquiry::open(origin, Family::Spk, asked, SIZE, MARK),
+            asked,
+        ),
+        _ => streams::complain(b"a block of another kind\n"),
+    }
+}
+
 // Replays the block at `at` and answers where the next one starts.
 fn replay_block(s: &[u8], at: usize) -> usize
-    requires { ⌜ at + 12 ≤ length (now s) ⌝ }
-    ensures { λ r. ⌜ (at + 12 ≤ r) × (r ≤ length (now (s .entry))) ⌝ }
+    requires { ⌜ at + 16 ≤ length (now s) ⌝ }
+    ensures { λ r. ⌜ (at + 16 ≤ r) × (r ≤ length (now (s .entry))) ⌝ }
 {
     let kind = bits::le_u32(s, at);
-    let matrix = at + 12;
-    let kernel = matrix + matrix_len(kind);
-    let asked = kernel + bits::le_u32(s, at + 4) as usize;
-    let next = asked + bits::le_u32(s, at + 8) as usize;
+    let matrix = at + 16;
+    let origin = matrix + matrix_len(kind);
+    let kernel = origin + bits::le_u32(s, at + 4) as usize;
+    let asked = kernel + bits::le_u32(s, at + 8) as usize;
+    let next = asked + bits::le_u32(s, at + 12) as usize;
     if s.len() < next {
         streams::complain(b"a block is cut short\n");
         return s.len();
     }
-    if kind < 2 {
-        asking::reply(&s[kernel..asked], &s[asked..next], &s[matrix..kernel]);
+    if origin == kernel {
+        tell(
+            kind,
+            &s[matrix..origin],
+            &s[kernel..asked],
+            &s[kernel..asked],
+            &s[asked..next],
+        );
     } else {
-        streams::complain(b"a block of another kind\n");
+        tell(
+            kind,
+            &s[matrix..origin],
+            &s[origin..kernel],
+            &s[kernel..asked],
+            &s[asked..next],
+        );
     }
     next
 }
@@ -38,7 +107,7 @@ fn replay_block(s: &[u8], at: usize) -> usize
 fn replay(s: &[u8]) {
     let mut at: usize = 0;
     while at < s.len() {
-        if s.len() - at < 12 {
+        if s.len() - at < 16 {
             streams::complain(b"a block is cut short\n");
             return;
         }

@@ -107,9 +107,8 @@ fn write_all(kernel: &[u8], table: Table, asked: &[u8]) {
     }
 }
 
-// Writes what a kernel replies to a file of questions: a refusal, or a line each. No contract can speak of what is written.
-pub fn reply(kernel: &[u8], asked: &[u8]) {
-    let opened = open(kernel, asked);
+// Writes what an opening comes to: its refusal, or a line for each question put to the kernel. No contract can speak of what is written.
+pub fn tell(kernel: &[u8], opened: Opened, asked: &[u8]) {
     let outcome = opened.outcome;
     let table = opened.table;
     match outcome {
@@ -118,4 +117,9 @@ pub fn reply(kernel: &[u8], asked: &[u8]) {
         }
         Outcome::Accepted => write_all(kernel, table, asked),
     }
+}
+
+// Writes what a kernel replies to a file of questions: a refusal, or a line each. No contract can speak of what is written.
+pub fn reply(kernel: &[u8], asked: &[u8]) {
+    tell(kernel, open(kernel, asked), asked);
 }

@@ -3,8 +3,10 @@
 //!   oracle ask KERNEL QUESTIONS [MATRIX]  `opened COUNT`, then for each question its number and
 //!                                         `same`, `forward S`, `reversed S` or `chained` with six numbers
 //!   oracle orient KERNEL QUESTIONS        `opened COUNT`, then number, reference frame, six numbers
-//!   oracle alone KERNEL QUESTIONS         `opened COUNT`, then number, six numbers: a segment evaluated by its
-//!                                         number, covering or not (records A5 5D, number, epoch)
+//!   oracle alone KERNEL QUESTIONS         `opened COUNT`, then number, `forward S`, six numbers: segment S evaluated
+//!                                         by its number, covering or not (records A5 5D, number, epoch)
+//!   oracle forged BYTES ask|orient|alone KERNEL QUESTIONS
+//!                                         the same, with BYTES written over KERNEL, which is mapped, once it is open
 //!   oracle listing KERNEL                 our listing's lines
 //!   oracle names KERNEL                   `opened COUNT`, then number and name, the name's bytes in hexadecimal
 //!   oracle matrix FILE                    writes j2000_to_eclipj2000 as 72 bytes and prints it
@@ -20,7 +22,9 @@ use oracle::frame::{j2000_to_eclipj2000, rotate_state_inertial, NaifFrame};
 use oracle::pck::{PckError, PckFile};
 use oracle::spk::{reach, SpkError, SpkFile};
 use oracle::words::{hex, matrix, questions, Question};
+use std::io::Write;
 use std::panic::{catch_unwind, AssertUnwindSafe};
+use std::sync::Mutex;
 
 const SECONDS: u64 = 3;
 const MEMORY: u64 = 1 << 29;
@@ -74,10 +78,24 @@ fn caught(call: impl FnOnce() -> Result<String, String>) -> String {
     }
 }
 
+/// Bytes to write over an opened kernel, and the kernel's path.
+static OVER: Mutex<Option<(Vec<u8>, String)>> = Mutex::new(None);
+
+/// The file under an opened kernel changed in place, where that is asked for; its length stays.
+fn write_over() {
+    if let Some((bytes, path)) = OVER.lock().expect("one thread").take() {
+        let mut file = std::fs::OpenOptions::new().write(true).open(path).expect("a kernel that can be written");
+        file.write_all(&bytes).expect("bytes written over the kernel");
+    }
+}
+
 /// An opening: the opened kernel, or the lines that say why not are printed.
 fn opened<T>(open: impl FnOnce() -> Result<T, String>) -> Option<T> {
     match catch_unwind(AssertUnwindSafe(open)) {
-        Ok(Ok(file)) => return Some(file),
+        Ok(Ok(file)) => {
+            write_over();
+            return Some(file);
+        }
         Ok(Err(kind)) => println!("opening error {kind}"),
         Err(_) => println!("opening panic"),
     }
@@ -141,7 +159,7 @@ fn alone(kernel: &str, asked: &str) {
         for (i, q) in list.iter().enumerate() {
             let s = q.target as usize;
             let one = || match reach::evaluate(&file, s, q.et) {
-                Ok(six) => Ok(hex(&six)),
+                Ok(six) => Ok(format!("forward {s} {}", hex(&six))),
                 Err(e) => Err(spk_kind(&e, || Some(s))),
             };
             println!("{i} {}", caught(one));
@@ -217,6 +235,10 @@ fn work(args: &[&str]) {
     bound();
     std::panic::set_hook(Box::new(|_| {}));
     match args {
+        ["forged", bytes, program, kernel, rest @ ..] => {
+            *OVER.lock().expect("one thread") = Some((read(bytes), kernel.to_string()));
+            work(&[&[*program, *kernel], rest].concat())
+        }
         ["ask", kernel, asked] => ask(kernel, asked, None),
         ["ask", kernel, asked, turn] => ask(kernel, asked, Some(turn)),
         ["alone", kernel, asked] => alone(kernel, asked),
