@@ -1,4 +1,4 @@
--- **opened-fits**: with the kernel unchanged, no segment of an opened table is refused with 14. Assumes nothing.
+-- **opened-fits**: with the kernel unchanged, no segment of an opened table is refused with 14, and no question. Assumes nothing.
 use Prim.Native.Nat.{ℕ, zero, suc, _-_, _≤_, _<_}
 use mathlib.Core.Path.{_≡_, refl, sym, ap, _∙_, subst}
 use mathlib.Core.Bool.{Bool, true, false, cond}
@@ -8,11 +8,14 @@ use borrow.Author.Tests.{ltb-false}
 use lib.ListN.{length, replicate}
 use lib.Ieee.{Float}
 use Rattle.bits.proofs.Tests.{by-test}
-use Rattle.daf.specs.Summaries.{summaryOf}
+use Rattle.daf.specs.Opening.{recordsOf}
+use Rattle.daf.specs.Summaries.{total, summaryOf}
+use Rattle.daf.proofs.Cursors.{length-places}
 use Rattle.daf.specs.declared.Family.{Family}
 use Rattle.daf.specs.declared.Family.the-variants.{Spk, Pck}
 use Rattle.daf.specs.declared.Place.{Place}
 use Rattle.daf.specs.declared.Summary.{Summary}
+use Rattle.segment.specs.Evaluating.{evaluated}
 use Rattle.segment.specs.Malformed.{segmentOf, judged}
 use Rattle.segment.specs.declared.Segment.{Segment}
 use Rattle.segment.specs.declared.Judged.the-variants.{Accepted, Malformed}
@@ -23,7 +26,9 @@ use Rattle.table.specs.declared.Table.{Table}
 use Rattle.table.proofs.Marks.{at-any}
 use Rattle.opening.specs.Opening.{placesOf, malformedSummary, wellFormed, segmentAt, segmentsOf, tableOf, markedFor}
 use Rattle.opening.proofs.Exact.{accepted}
-use Rattle.demands.specs.Demands.{OpenedFits}
+use Rattle.spk.proofs.Exactly as spk
+use Rattle.pck.proofs.Exactly as pck
+use Rattle.demands.specs.Demands.{OpenedAs, OpenedFits, QuestionsFit, OrientationsFit}
 
 -- segment i of a table of well-formed ones is that of a summary which the tests pass
 record Passed (f : Family) (k : List ℕ) (s : Segment) : Type 0 where
@@ -76,13 +81,32 @@ count-marked : (f : Family) (t : Table) → markedFor f t .count ≡ t .count
 count-marked Spk t = refl
 count-marked Pck t = refl
 
+-- an opened table has as many segments as there are places of summaries
+count-places : (f : Family) (k : List ℕ) (t : Table) → OpenedAs f k t → t .count ≡ length (placesOf k)
+count-places f k t e =
+    sym (ap (λ (x : Table). x .count) (accepted f k t e .1)) ∙ count-marked f (tableOf (segmentsOf f k)) ∙ length-map (segmentAt f k) (placesOf k)
+
 pub fits : OpenedFits
 fits f k t e i h et bad =
     let a = accepted f k t e in
     let all : length (placesOf k) ≤ wellFormed f k (placesOf k) = ltb-false _ _ (a .0 .1 .1 .1 .1 .1 .1 .1 .1 .0) in
-    let n : t .count ≡ length (placesOf k) = sym (ap (λ (x : Table). x .count) (a .1)) ∙ count-marked f (tableOf (segmentsOf f k)) ∙ length-map (segmentAt f k) (placesOf k) in
+    let n = count-places f k t e in
     let p = passed f k (replicate (tableLimit - length (segmentsOf f k)) emptySegment) (placesOf k) i (omega arith) all in
     let d : SameData (segmentAt f k (p .at)) (seg (t .segments) i) =
     subst (λ (s : Segment). SameData s (seg (t .segments) i)) (p .is)
     (subst (λ (x : Table). SameData (seg (tableOf (segmentsOf f k) .segments) i) (seg (x .segments) i)) (a .1) (read-data f (tableOf (segmentsOf f k)) i)) in
     opened-fits f k (summaryOf f k (p .at)) (segmentAt f k (p .at)) (seg (t .segments) i) (judged-fine f k (summaryOf f k (p .at)) (p .fine)) d i et bad
+
+-- its count is within the limit: refusal 8 was not given
+within : (f : Family) (k : List ℕ) (t : Table) → OpenedAs f k t → t .count ≤ tableLimit
+within f k t e =
+    let n = count-places f k t e in
+    let all = length-places k (recordsOf k) in
+    let few : total k (recordsOf k) ≤ tableLimit = ltb-false _ _ (accepted f k t e .0 .1 .1 .1 .1 .1 .1 .1 .0) in
+    omega arith
+
+pub questions-fit : QuestionsFit
+questions-fit k t e m q = spk.never-14 tableLimit (evaluated Spk k) (t .segments) (t .count) m q (within Spk k t e) (fits Spk k t e)
+
+pub orientations-fit : OrientationsFit
+orientations-fit k t e q = pck.never-14 tableLimit k (t .segments) (t .count) q (within Pck k t e) (fits Pck k t e)

@@ -6,7 +6,7 @@ use mathlib.Core.List.{List, map}
 use lib.Ieee.{Float}
 use Rattle.refusal.specs.declared.Refusal.the-variants.{TableUnfit}
 use Rattle.daf.specs.declared.Family.{Family}
-use Rattle.daf.specs.declared.Family.the-variants.{Spk}
+use Rattle.daf.specs.declared.Family.the-variants.{Spk, Pck}
 use Rattle.segment.specs.Evaluating.{evaluated}
 use Rattle.segment.specs.declared.Evaluated.the-variants.{Refused}
 use Rattle.table.specs.Segments.{seg}
@@ -15,6 +15,10 @@ use Rattle.table.specs.declared.Table.{Table}
 use Rattle.opening.specs.Opening.{acceptedOpening, opened}
 use Rattle.spk.specs.declared.Memory.{Memory}
 use Rattle.spk.specs.declared.Answer.{Answer}
+use Rattle.spk.specs.declared.Question as spk
+use Rattle.spk.specs.When as spk-when
+use Rattle.pck.specs.declared.Question as pck
+use Rattle.pck.specs.When as pck-when
 use Rattle.spk.specs.Runs.{Asking, fresh, run, serve, ofCustomer}
 
 -- A table as the opening of this kernel returned it.
@@ -48,6 +52,17 @@ Interleaving =
 abbrev pub OpenedFits : Type 0
 OpenedFits =
     (f : Family) (k : List ℕ) (t : Table) → OpenedAs f k t → (i : ℕ) → i < t .count → (et : Float) → evaluated f k (seg (t .segments) i) i et ≡ Refused TableUnfit → ⊥
+
+-- .. so no question to an opened SPK is, whatever the memory holds ..
+abbrev pub QuestionsFit : Type 0
+QuestionsFit =
+    (k : List ℕ) (t : Table) → OpenedAs Spk k t → (m : Memory) (q : spk.Question)
+    → spk-when.RefusedBy tableLimit (evaluated Spk k) (t .segments) (t .count) m q TableUnfit → ⊥
+
+-- .. and none to an opened PCK.
+abbrev pub OrientationsFit : Type 0
+OrientationsFit =
+    (k : List ℕ) (t : Table) → OpenedAs Pck k t → (q : pck.Question) → pck-when.RefusedBy tableLimit k (t .segments) (t .count) q TableUnfit → ⊥
 
 -- What a contract `ensures { λ r. ⌜ r ≡ d ⌝ }` permits: every public function has one, `d` being its definition at its arguments.
 abbrev pub Permitted : {A : Type 0} → A → A → Type 0

@@ -7,7 +7,7 @@ use mathlib.Core.List.{List}
 use native.Mathlib.Omega.{arith}
 use native.Mathlib.Decide.{decLt}
 use lib.Dec.{eqb}
-use lib.Ieee.{isNan}
+use lib.Ieee.{Float, isNan}
 use lib.IntN.{ℤ}
 use Rattle.bits.proofs.Tests.{by-test}
 use Rattle.refusal.specs.declared.Refusal.{Refusal}
@@ -178,6 +178,10 @@ module _ (limit : ℕ) (k : List ℕ) (segs : List Segment) (n : ℕ) (q : Quest
       only (none b w x) = clash (cc)
       only (own w) = inr w
       only (infinite w x) = clash (cc)
+
+  -- where the count fits and no segment of the table is refused with 14, no question is
+  pub never-14 : n ≤ limit → ((i : ℕ) → i < n → (et : Float) → evaluated Pck k (seg segs i) i et ≡ evaluation.Refused TableUnfit → ⊥) → RefusedBy limit k segs n q TableUnfit → ⊥
+  never-14 le fit h = ⊎-elim (λ l. omega arith) (λ w. fit (w .number) (w .answers .below) (q .et) (w .given)) (exactly-14 .0 h)
 
   -- **exactly-when**, 15
   pub exactly-15 : RefusedBy limit k segs n q NotFinite ↔ When15 limit k segs n q
