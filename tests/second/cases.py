@@ -1,0 +1,56 @@
+#!/usr/bin/env python3
+"""cases.py FILE...: the second program's lines about blocks, as the program `cases` writes them; tests/oracle/stored.py describes a block."""
+
+import struct
+import sys
+
+import second
+
+PROGRAMS = {0: "ask", 1: "ask", 2: "orient", 3: "alone"}
+
+
+def numbered(lines, records):
+    """Lines of segments alone, with the segment behind the question's number."""
+    for line, (segment, _) in zip(lines, records):
+        number, _, rest = line.partition(" ")
+        yield line if line.startswith("refused") else f"{number} forward {segment} {rest}"
+
+
+def block_lines(program, origin, kernel, questions, matrix):
+    """What is said of the questions to a kernel with the table of `origin`."""
+    table = second.open_pck(origin) if program == "orient" else second.open_spk(origin)
+    if isinstance(table, second.Refusal):
+        return [second.refused_line(table)]
+    records = second.question_records(program, questions)
+    if records is None:
+        return [second.refused_line(second.Refusal(19, 0))]
+    if program == "ask":
+        return second.ask_lines(kernel, table, records, second.matrix_rows(matrix) if matrix else None)
+    if program == "orient":
+        return second.orient_lines(kernel, table, records)
+    return numbered(second.alone_lines(kernel, table, records), records)
+
+
+def blocks(data):
+    """Program, table's kernel, kernel, questions and matrix of each block."""
+    at = 0
+    while at < len(data):
+        kind, *lengths = struct.unpack_from("<4I", data, at)
+        places = [at + 16, at + 16 + (72 if kind == 1 else 0)]
+        for n in lengths:
+            places.append(places[-1] + n)
+        matrix, origin, kernel, questions = (data[a:b] for a, b in zip(places, places[1:]))
+        yield PROGRAMS[kind], origin or kernel, kernel, questions, matrix
+        at = places[-1]
+
+
+def main():
+    for path in sys.argv[1:]:
+        with open(path, "rb") as f:
+            for block in blocks(f.read()):
+                for line in block_lines(*block):
+                    print(line)
+
+
+if __name__ == "__main__":
+    main()
