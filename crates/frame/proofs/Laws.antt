@@ -4,7 +4,7 @@ use mathlib.Core.Bool.{true}
 use lib.Ieee.{Float, nan, inf, fin, neg, ofBits}
 use Rattle.bits.specs.F64.{finite}
 use Rattle.frame.specs.State.{zeroState, negatedState, finiteState}
-use Rattle.frame.specs.Frame.{Matrix, matrix, cell, transposeOf, turnedBetween, sxformOf, inverseOf}
+use Rattle.frame.specs.Frame.{Matrix, matrix, cell, transposeOf, turnedBetween}
 use Rattle.frame.specs.declared.State.{State}
 use Rattle.frame.specs.declared.NaifFrame.{NaifFrame}
 use Rattle.frame.specs.declared.NaifFrame.the-variants.{J2000, EclipJ2000}
@@ -35,7 +35,3 @@ same-frame EclipJ2000 m s = refl
 -- a matrix transposed twice has its own nine numbers
 pub transpose-twice : (m : Matrix) → transposeOf (transposeOf m) ≡ matrix 3 (cell m)
 transpose-twice m = refl
-
--- the inverse of a state matrix is that of the transposes
-pub inverse-sxform : (r dr : Matrix) → inverseOf (sxformOf r dr) ≡ sxformOf (transposeOf r) (transposeOf dr)
-inverse-sxform r dr = refl

@@ -6,36 +6,36 @@ use mathlib.Core.List.{List, [], _∷_, map}
 use lib.Ieee.{Float, nan, inf, add, sub, mul, neg, ofInt, ofBits, binary64}
 use Rattle.bits.specs.F64.{+0, whole}
 use Rattle.frame.specs.State.{stateOf, zeroState, negatedState, plusState, minusState, finiteState}
-use Rattle.frame.specs.Frame.{Matrix, matrix, turnedState, transposeOf, turnedBetween, productOf, sumOf, sxformOf, inverseOf, appliedState}
+use Rattle.frame.specs.Frame.{Matrix, matrix, turnedState, transposeOf, turnedBetween}
 use Rattle.frame.specs.declared.State.{State}
 use Rattle.frame.specs.declared.NaifFrame.the-variants.{J2000, EclipJ2000}
 
 -- A whole number below zero; -0 of 0.
-abbrev minus : ℕ → Float
+abbrev pub minus : ℕ → Float
 minus n = neg (whole n)
 
 -- A state from its six numbers.
-abbrev state : Float → Float → Float → Float → Float → Float → State
+abbrev pub state : Float → Float → Float → Float → Float → Float → State
 state a b c d e f = record { x = a; y = b; z = c; vx = d; vy = e; vz = f }
 
 -- The state (1, 2, 3, 4, 5, 6).
-abbrev counted : State
+abbrev pub counted : State
 counted = stateOf (λ k. whole (k + 1))
 
 -- The six numbers are -0.
-abbrev minusZeros : State
+abbrev pub minusZeros : State
 minusZeros = stateOf (λ k. minus 0)
 
 -- The rows (0, 1, 0), (-1, 0, 0), (0, 0, 1).
-abbrev quarter : Matrix
+abbrev pub quarter : Matrix
 quarter = (whole 0 ∷ whole 1 ∷ whole 0 ∷ []) ∷ (minus 1 ∷ whole 0 ∷ whole 0 ∷ []) ∷ (whole 0 ∷ whole 0 ∷ whole 1 ∷ []) ∷ []
 
 -- The rows (1, 0, 0), (0, 1, 0), (0, 0, 1).
-abbrev unit : Matrix
+abbrev pub unit : Matrix
 unit = (whole 1 ∷ whole 0 ∷ whole 0 ∷ []) ∷ (whole 0 ∷ whole 1 ∷ whole 0 ∷ []) ∷ (whole 0 ∷ whole 0 ∷ whole 1 ∷ []) ∷ []
 
 -- The rows (1, 2, 3), (4, 5, 6), (7, 8, 9).
-abbrev nine : Matrix
+abbrev pub nine : Matrix
 nine = matrix 3 (λ i j. whole (3 * i + j + 1))
 
 -- Document 01: rows (0, 1, 0), (-1, 0, 0), (0, 0, 1) on (1, 2, 3, 4, 5, 6) give (2, -1, 3, 5, -4, 6).
@@ -58,39 +58,9 @@ pub turned-zeros : turnedState unit minusZeros ≡ minusZeros
 unfolding add mul neg ofInt
 turned-zeros = refl
 
--- In `matmul3` the +0 shows: the unit matrix times a matrix of -0 is one of +0.
-pub product-zeros : productOf unit (matrix 3 (λ i j. minus 0)) ≡ matrix 3 (λ i j. +0)
-unfolding add mul neg ofInt ofBits
-product-zeros = refl
-
--- So it does in `apply_sxform`, where the rotation keeps -0.
-pub applied-zeros : appliedState (sxformOf unit unit) minusZeros ≡ zeroState
-unfolding zeroState add mul neg ofInt ofBits
-applied-zeros = refl
-
--- A product: the quarter turn done twice.
-pub half-turn : productOf quarter quarter ≡ (minus 1 ∷ +0 ∷ +0 ∷ []) ∷ (+0 ∷ minus 1 ∷ +0 ∷ []) ∷ (+0 ∷ +0 ∷ whole 1 ∷ []) ∷ []
-unfolding add mul neg ofInt ofBits
-half-turn = refl
-
 -- The columns of (1, 2, 3), (4, 5, 6), (7, 8, 9).
 pub columns : transposeOf nine ≡ matrix 3 (λ i j. whole (3 * j + i + 1))
 columns = refl
-
--- A sum of matrices.
-pub doubled : sumOf nine nine ≡ matrix 3 (λ i j. whole (2 * (3 * i + j + 1)))
-unfolding add ofInt
-doubled = refl
-
--- A state matrix with derivative (1, 2, 3), (4, 5, 6), (7, 8, 9) adds its rows times the position to the velocity.
-pub moved : appliedState (sxformOf unit nine) counted ≡ state (whole 1) (whole 2) (whole 3) (whole 18) (whole 37) (whole 56)
-unfolding add mul ofInt ofBits
-moved = refl
-
--- The same of the inverse: the columns (1, 4, 7), (2, 5, 8), (3, 6, 9) times the position.
-pub moved-back : appliedState (inverseOf (sxformOf unit nine)) counted ≡ state (whole 1) (whole 2) (whole 3) (whole 34) (whole 41) (whole 48)
-unfolding add mul ofInt ofBits
-moved-back = refl
 
 -- Negating turns +0 to -0.
 pub negated-zeros : negatedState zeroState ≡ minusZeros

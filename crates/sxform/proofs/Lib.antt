@@ -1,0 +1,2 @@
+-- A law on state matrices.
+pub mod Laws

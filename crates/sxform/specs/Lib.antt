@@ -1,0 +1,3 @@
+-- What the contracts of `sxform` cite, and worked examples.
+pub mod Sxform
+pub mod Examples
