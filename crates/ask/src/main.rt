@@ -9,7 +9,7 @@ fn reply_turned(kernel: &[u8], asked: &[u8], matrix: &[u8]) {
         streams::write_refusal(Refusal::InputTooLong);
         return;
     }
-    if matrix.len() == asking::MATRIX || asking::over(kernel, asked) {
+    if matrix.len() == asking::MATRIX || inquiry::over(kernel, asked) {
         asking::reply(kernel, asked, matrix);
     } else {
         streams::complain(b"MATRIX: not 72 bytes long\n");

@@ -1,4 +1,3 @@
--- What the contracts of `asking` cite: the records, the order of the refusals, and the lines.
+-- What the contracts of `asking` cite: the records, and the lines.
 pub mod Records
-pub mod Order
 pub mod Lines

@@ -2,7 +2,7 @@
 use Prim.Native.Nat.{ℕ}
 use mathlib.Core.List.{List, [], _∷_, _++_}
 use Rattle.frame.specs.declared.State.{State}
-use Rattle.lines.specs.Text.{space, newline, decimalText, stateText, refusalText}
+use Rattle.lines.specs.Text.{space, decimalText, tailText, refusalText}
 use Rattle.spk.specs.declared.Answer.{Answer}
 use Rattle.spk.specs.declared.Way.{Way}
 use Rattle.spk.specs.declared.Way.the-variants.{Same, Forward, Reversed, Chained, Refused}
@@ -20,18 +20,12 @@ reversedWord = space ∷ 114 ∷ 101 ∷ 118 ∷ 101 ∷ 114 ∷ 115 ∷ 101 ∷
 abbrev pub chainedWord : List ℕ
 chainedWord = space ∷ 99 ∷ 104 ∷ 97 ∷ 105 ∷ 110 ∷ 101 ∷ 100 ∷ []
 
--- The six numbers and the newline.
-unfoldable pub tailText : State → List ℕ
-tailText s = stateText s ++ (newline ∷ [])
-
 -- The question's number, a word, the state.
 unfoldable pub wordLine : ℕ → List ℕ → State → List ℕ
-unfolding tailText
 wordLine i word s = decimalText i ++ (word ++ tailText s)
 
 -- The question's number, a word, the segment's number, the state.
 unfoldable pub namedLine : ℕ → List ℕ → ℕ → State → List ℕ
-unfolding tailText
 namedLine i word segment s = decimalText i ++ (word ++ (decimalText segment ++ tailText s))
 
 -- The line of a way and its state. A refused answer has the line of its refusal, with no number before it.

@@ -1,7 +1,7 @@
 -- The records of a questions file, and the numbers of a matrix file.
 use Prim.Native.Nat.{ℕ, _+_, _*_}
 use mathlib.Core.List.{List}
-use Rattle.bits.specs.Bytes.{le32, le64, signed32, doubleAt}
+use Rattle.bits.specs.Bytes.{le32, signed32, doubleAt}
 use Rattle.frame.specs.Frame.{Matrix, matrix}
 use Rattle.records.specs.declared.Mark.{Mark}
 use Rattle.spk.specs.declared.Question.{Question}

@@ -1,19 +1,18 @@
-// A file of questions put to an SPK kernel: its records, the order of the refusals, and a line for each answer.
+// A file of questions put to an SPK kernel: its records, and a line for each answer.
 ghost use mathlib.Core.Path.{_≡_};
 ghost use Prim.Native.Nat.{_+_, _*_, _≤_};
 ghost use lib.ListN.{length};
+ghost use Rattle.daf.specs.declared.Family.the-variants.{Spk};
 ghost use Rattle.lines.specs.Written.{Written};
-ghost use Rattle.opening.specs.Opening.{refusedOpening};
-ghost use Rattle.asking.specs.Records.{questionAt, rowsOf};
-ghost use Rattle.asking.specs.Order.{tooLong, openedFor};
-ghost use Rattle.asking.specs.Lines.{tailText, wordLine, namedLine, answerText};
+ghost use Rattle.inquiry.specs.Order.{openedFor};
+ghost use Rattle.asking.specs.Records.{questionSize, questionMark, questionAt, rowsOf};
+ghost use Rattle.asking.specs.Lines.{wordLine, namedLine, answerText};
 use daf::Family;
 use frame::NaifFrame;
 use frame::State;
 use opening::Opened;
 use opening::Outcome;
 use records::Mark;
-use refusal::Refusal;
 use spk::Answer;
 use spk::Memory;
 use spk::Question;
@@ -69,52 +68,11 @@ pub fn rows(matrix: &[u8]) -> [[f64; 3]; 3]
     ]
 }
 
-// A refused opening.
-fn refused(refusal: Refusal) -> Opened
-    ensures { λ r. ⌜ r ≡ refusedOpening refusal ⌝ }
-{
-    Opened {
-        outcome: Outcome::Refused(refusal),
-        table: Table::empty(),
-    }
-}
-
-// The kernel or the questions are over a program's limit.
-pub fn over(kernel: &[u8], asked: &[u8]) -> bool
-    ensures { λ r. ⌜ r ≡ tooLong (now (kernel .entry)) (now (asked .entry)) ⌝ }
-{
-    streams::too_long(kernel.len()) || streams::too_long(asked.len())
-}
-
 // A kernel opened for a file of questions: 18, then the opening's refusals, then 19, or its table.
 pub fn open(kernel: &[u8], asked: &[u8]) -> Opened
-    ensures { λ r. ⌜ r ≡ openedFor (now (kernel .entry)) (now (asked .entry)) ⌝ }
+    ensures { λ r. ⌜ r ≡ openedFor Spk questionSize questionMark (now (kernel .entry)) (now (asked .entry)) ⌝ }
 {
-    if over(kernel, asked) {
-        return refused(Refusal::InputTooLong);
-    }
-    let opened = opening::open(kernel, Family::Spk);
-    let outcome = opened.outcome;
-    match outcome {
-        Outcome::Refused(_) => opened,
-        Outcome::Accepted => {
-            if records::fit(asked, SIZE, MARK) {
-                opened
-            } else {
-                refused(Refusal::BadRecord)
-            }
-        }
-    }
-}
-
-// Puts the end of an answer's line: its state and the newline.
-fn put_tail(out: &mut [u8], at: usize, state: State) -> usize
-    requires { ⌜ at + 103 ≤ length (now out) ⌝ }
-    ensures { λ r. ⌜ Written (now (out .entry)) at (tailText state) (now (out .exit)) r ⌝ }
-    ensures { λ r. ⌜ r ≤ at + 103 ⌝ }
-{
-    let end = lines::put_state(out, at, state);
-    lines::put(out, end, b"\n")
+    inquiry::open(kernel, Family::Spk, asked, SIZE, MARK)
 }
 
 // Puts the line of an answer that names no segment: its number, a word, its state.
@@ -125,7 +83,7 @@ fn put_word_line(out: &mut [u8], i: usize, word: &[u8], state: State) -> usize
 {
     let first = lines::put_decimal(out, 0, i as u64);
     let tail = lines::put(out, first, word);
-    put_tail(out, tail, state)
+    lines::put_tail(out, tail, state)
 }
 
 // Puts the line of an answer that names one: its number, a word, the segment's number, its state.
@@ -137,7 +95,7 @@ fn put_named_line(out: &mut [u8], i: usize, word: &[u8], segment: usize, state: 
     let first = lines::put_decimal(out, 0, i as u64);
     let second = lines::put(out, first, word);
     let tail = lines::put_decimal(out, second, segment as u64);
-    put_tail(out, tail, state)
+    lines::put_tail(out, tail, state)
 }
 
 // Puts the line of answer i at the start of a buffer.

@@ -1,5 +1,5 @@
 -- Laws of the order of the refusals, one for each way through the code: 18, the opening's, 19. Assumes nothing.
-use mathlib.Core.Path.{_≡_, refl, sym, ap, _∙_, subst}
+use mathlib.Core.Path.{_≡_, refl, sym, ap, _∙_}
 use mathlib.Core.Bool.{Bool, true, false, not, cond}
 use mathlib.Core.List.{List, [], _∷_, _++_}
 use Prim.Native.Nat.{ℕ}
@@ -7,7 +7,7 @@ use native.Mathlib.Omega.{arith}
 use Rattle.refusal.specs.declared.Refusal.{Refusal}
 use Rattle.refusal.specs.declared.Refusal.the-variants.{InputTooLong, BadRecord}
 use Rattle.refusal.specs.Order.{Case, firstOf}
-use Rattle.refusal.proofs.Exactly.{by-test, first-append}
+use Rattle.refusal.proofs.Exactly.{first-append}
 use Rattle.daf.specs.declared.Family.{Family}
 use Rattle.opening.specs.declared.Opened.{Opened}
 use Rattle.opening.specs.declared.Outcome.{Outcome}

@@ -21,7 +21,7 @@ fn refused(refusal: Refusal) -> Opened
 }
 
 // The kernel or the file of records is over a program's limit.
-fn over(kernel: &[u8], file: &[u8]) -> bool
+pub fn over(kernel: &[u8], file: &[u8]) -> bool
     ensures { λ r. ⌜ r ≡ tooLong (now (kernel .entry)) (now (file .entry)) ⌝ }
 {
     streams::too_long(kernel.len()) || streams::too_long(file.len())

@@ -1,4 +1,4 @@
--- Texts put one behind the other, and what `io`'s digits come to. Assumes nothing.
+-- Texts put one behind the other, fields of a struct, and what `io`'s digits come to. Assumes nothing.
 use mathlib.Core.Path.{_≡_, refl, sym, ap, _∙_, subst}
 use mathlib.Core.Bool.{Bool, true, false, cond}
 use mathlib.Core.List.{List, [], _∷_, _++_, append-assoc}
@@ -6,10 +6,14 @@ use Prim.Native.Nat.{ℕ, zero, suc, _+_, _-_, _*_, _/_, _%_, _^_, _≤_, _<_}
 use native.Mathlib.Nat.{le-antisymm, lt-of-lt-of-le, mod-eq-of-lt, div-lt-iff-lt-mul, le-div-iff-mul-le, pow-suc, one-le-pow, pow-le-pow-right}
 use native.Mathlib.Omega.{arith}
 use lib.Dec.{ltb, lit≤}
+use lib.IntN.{ℤ}
 use lib.ListN.{length, take, length-append}
+use mir.Syntax.{w32}
+use mir.Val.{SFits, toZ, ofZ}
+use mir.ValLaws.{toZ-ofZ}
 use borrow.Author.Tests.{lt-ltb, le-ltb, ltb-true, ltb-false}
 use Rattle.io.specs.Digits.{glyph, digits, Fewest}
-use Rattle.lines.specs.Text.{decimalIn, decimalText, signedText, numberText}
+use Rattle.lines.specs.Text.{decimalIn, decimalText, fieldText}
 use Rattle.lines.specs.Written.{Written}
 
 -- one text behind another
@@ -19,6 +23,10 @@ then {before} {at} {first} {second} a b = record {
   ends = b .ends ∙ ap (λ (k : ℕ). k + length second) (a .ends) ∙ omega (arith, length-append first second);
   reads = b .reads ∙ ap (λ (l : List ℕ). l ++ second) (a .reads) ∙ append-assoc (take at before) first second;
 }
+
+-- a field of a struct, read back from its bits
+pub told : {b a : List ℕ} {at r : ℕ} (z : ℤ) → SFits w32 z → Written b at (fieldText (toZ w32 (ofZ w32 z))) a r → Written b at (fieldText z) a r
+told {b} {a} {at} {r} z f w = subst (λ (y : ℤ). Written b at (fieldText y) a r) (toZ-ofZ w32 z f) w
 
 -- so many digits
 pub digits-length : (b k n : ℕ) → length (digits b k n) ≡ k

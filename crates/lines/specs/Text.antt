@@ -35,6 +35,10 @@ unfolding decimalText
 signedText (pos n) = decimalText n
 signedText (negsuc n) = minus ∷ decimalText (suc n)
 
+-- A signed number behind a space.
+unfoldable pub fieldText : ℤ → List ℕ
+fieldText z = (space ∷ []) ++ signedText z
+
 -- The bits of a double in 16 lower-case hexadecimal digits, behind a space.
 unfoldable pub numberText : Float → List ℕ
 numberText x = space ∷ digits 16 16 (toBits binary64 x)
@@ -43,6 +47,10 @@ numberText x = space ∷ digits 16 16 (toBits binary64 x)
 unfoldable pub stateText : State → List ℕ
 unfolding numberText
 stateText s = numberText (s .x) ++ (numberText (s .y) ++ (numberText (s .z) ++ (numberText (s .vx) ++ (numberText (s .vy) ++ numberText (s .vz)))))
+
+-- The end of an answer's line: its six numbers and the newline.
+unfoldable pub tailText : State → List ℕ
+tailText s = stateText s ++ (newline ∷ [])
 
 -- `refused` and a space.
 abbrev pub refusedWord : List ℕ

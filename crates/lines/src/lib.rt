@@ -5,7 +5,7 @@ ghost use Prim.Native.Nat.{_+_, _≤_};
 ghost use lib.ListN.{length};
 ghost use lib.IntN.{natAbs};
 ghost use lib.Ieee.{binary64, toBits};
-ghost use Rattle.lines.specs.Text.{decimalText, signedText, numberText, stateText, refusalText};
+ghost use Rattle.lines.specs.Text.{decimalText, signedText, fieldText, numberText, stateText, tailText, refusalText};
 ghost use Rattle.lines.specs.Written.{Written};
 use frame::State;
 use refusal::Refusal;
@@ -70,6 +70,16 @@ pub fn put_signed(out: &mut [u8], at: usize, n: i64) -> usize
     }
 }
 
+// Puts n in decimal, behind a space.
+pub fn put_field(out: &mut [u8], at: usize, n: i32) -> usize
+    requires { ⌜ at + 22 ≤ length (now out) ⌝ }
+    ensures { λ r. ⌜ Written (now (out .entry)) at (fieldText n) (now (out .exit)) r ⌝ }
+    ensures { λ r. ⌜ r ≤ at + 22 ⌝ }
+{
+    let next = put(out, at, b" ");
+    put_signed(out, next, n as i64)
+}
+
 // Puts the bits of x in 16 hexadecimal digits, behind a space.
 pub fn put_number(out: &mut [u8], at: usize, x: f64) -> usize
     requires { ⌜ at + 17 ≤ length (now out) ⌝ }
@@ -94,6 +104,16 @@ pub fn put_state(out: &mut [u8], at: usize, s: State) -> usize
     let vy = put_number(out, vx, s.vx);
     let vz = put_number(out, vy, s.vy);
     put_number(out, vz, s.vz)
+}
+
+// Puts the end of an answer's line: its six numbers and the newline.
+pub fn put_tail(out: &mut [u8], at: usize, s: State) -> usize
+    requires { ⌜ at + 103 ≤ length (now out) ⌝ }
+    ensures { λ r. ⌜ Written (now (out .entry)) at (tailText s) (now (out .exit)) r ⌝ }
+    ensures { λ r. ⌜ r ≤ at + 103 ⌝ }
+{
+    let end = put_state(out, at, s);
+    put(out, end, b"\n")
 }
 
 // Puts the line of a refusal.

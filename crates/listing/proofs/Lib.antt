@@ -1,3 +1,2 @@
 -- Laws that the proofs cite.
-pub mod Fields
 pub mod Few

@@ -2,13 +2,8 @@
 use Prim.Native.Nat.{ℕ}
 use mathlib.Core.Bool.{Bool, true, false}
 use mathlib.Core.List.{List, [], _∷_, _++_}
-use lib.IntN.{ℤ}
-use Rattle.lines.specs.Text.{space, newline, decimalText, signedText, numberText}
+use Rattle.lines.specs.Text.{space, newline, decimalText, fieldText, numberText}
 use Rattle.segment.specs.declared.Segment.{Segment}
-
--- A signed number behind a space.
-unfoldable pub fieldText : ℤ → List ℕ
-fieldText z = (space ∷ []) ++ signedText z
 
 -- `yes` or `no` behind a space, and the newline.
 unfoldable pub markText : Bool → List ℕ
@@ -17,12 +12,11 @@ markText false = space ∷ 110 ∷ 111 ∷ newline ∷ []
 
 -- Target, center, frame, type.
 unfoldable pub headText : Segment → List ℕ
-unfolding fieldText
 headText s = fieldText (s .target) ++ (fieldText (s .center) ++ (fieldText (s .frame) ++ fieldText (s .«data_type»)))
 
 -- Both epochs as bits, both addresses, whether it is marked.
 unfoldable pub spanText : Segment → List ℕ
-unfolding fieldText markText
+unfolding markText
 spanText s = numberText (s .first) ++ (numberText (s .last) ++ (fieldText (s .start) ++ (fieldText (s .end) ++ markText (s .marked))))
 
 -- The line of segment i.

@@ -4,23 +4,13 @@ ghost use Prim.Native.Nat.{_+_, _≤_};
 ghost use lib.ListN.{length};
 ghost use Rattle.lines.specs.Written.{Written};
 ghost use Rattle.table.specs.Places.{tableLimit};
-ghost use Rattle.listing.specs.Lines.{fieldText, markText, headText, spanText, segmentText, countText};
+ghost use Rattle.listing.specs.Lines.{markText, headText, spanText, segmentText, countText};
 use daf::Family;
 use opening::Outcome;
 use refusal::Refusal;
 use segment::Segment;
 use streams::Input;
 use table::Table;
-
-// Puts a signed number behind a space.
-fn put_field(out: &mut [u8], at: usize, n: i32) -> usize
-    requires { ⌜ at + 22 ≤ length (now out) ⌝ }
-    ensures { λ r. ⌜ Written (now (out .entry)) at (fieldText n) (now (out .exit)) r ⌝ }
-    ensures { λ r. ⌜ r ≤ at + 22 ⌝ }
-{
-    let next = lines::put(out, at, b" ");
-    lines::put_signed(out, next, n as i64)
-}
 
 // Puts whether a segment is marked, and the newline.
 fn put_mark(out: &mut [u8], at: usize, marked: bool) -> usize
@@ -41,10 +31,10 @@ fn put_head(out: &mut [u8], at: usize, s: Segment) -> usize
     ensures { λ r. ⌜ Written (now (out .entry)) at (headText s) (now (out .exit)) r ⌝ }
     ensures { λ r. ⌜ r ≤ at + 88 ⌝ }
 {
-    let center = put_field(out, at, s.target);
-    let frame = put_field(out, center, s.center);
-    let data_type = put_field(out, frame, s.frame);
-    put_field(out, data_type, s.data_type)
+    let center = lines::put_field(out, at, s.target);
+    let frame = lines::put_field(out, center, s.center);
+    let data_type = lines::put_field(out, frame, s.frame);
+    lines::put_field(out, data_type, s.data_type)
 }
 
 // Puts the rest of it: both epochs, both addresses, whether it is marked.
@@ -55,8 +45,8 @@ fn put_span(out: &mut [u8], at: usize, s: Segment) -> usize
 {
     let last = lines::put_number(out, at, s.first);
     let start = lines::put_number(out, last, s.last);
-    let end = put_field(out, start, s.start);
-    let mark = put_field(out, end, s.end);
+    let end = lines::put_field(out, start, s.start);
+    let mark = lines::put_field(out, end, s.end);
     put_mark(out, mark, s.marked)
 }
 

@@ -6,7 +6,7 @@ ghost use Rattle.daf.specs.declared.Family.the-variants.{Pck};
 ghost use Rattle.lines.specs.Written.{Written};
 ghost use Rattle.inquiry.specs.Order.{openedFor};
 ghost use Rattle.orienting.specs.Records.{questionSize, questionMark, questionAt};
-ghost use Rattle.orienting.specs.Lines.{frameText, tailText, turnedText, orientedText};
+ghost use Rattle.orienting.specs.Lines.{turnedText, orientedText};
 use daf::Family;
 use opening::Opened;
 use opening::Outcome;
@@ -42,27 +42,6 @@ pub fn open(kernel: &[u8], asked: &[u8]) -> Opened
     inquiry::open(kernel, Family::Pck, asked, SIZE, MARK)
 }
 
-// Puts the reference frame, behind a space.
-fn put_frame(out: &mut [u8], at: usize, a: Oriented) -> usize
-    requires { ⌜ at + 22 ≤ length (now out) ⌝ }
-    ensures { λ r. ⌜ Written (now (out .entry)) at (frameText a) (now (out .exit)) r ⌝ }
-    ensures { λ r. ⌜ r ≤ at + 22 ⌝ }
-{
-    let next = lines::put(out, at, b" ");
-    lines::put_signed(out, next, a.frame as i64)
-}
-
-// Puts the six numbers and the newline.
-fn put_tail(out: &mut [u8], at: usize, a: Oriented) -> usize
-    requires { ⌜ at + 103 ≤ length (now out) ⌝ }
-    ensures { λ r. ⌜ Written (now (out .entry)) at (tailText a) (now (out .exit)) r ⌝ }
-    ensures { λ r. ⌜ r ≤ at + 103 ⌝ }
-{
-    let angles = a.angles;
-    let end = lines::put_state(out, at, angles);
-    lines::put(out, end, b"\n")
-}
-
 // Puts the line of an orientation that is no refusal.
 fn put_turned(out: &mut [u8], i: usize, a: Oriented) -> usize
     requires { ⌜ 145 ≤ length (now out) ⌝ }
@@ -70,8 +49,9 @@ fn put_turned(out: &mut [u8], i: usize, a: Oriented) -> usize
     ensures { λ r. ⌜ r ≤ 145 ⌝ }
 {
     let frame = lines::put_decimal(out, 0, i as u64);
-    let tail = put_frame(out, frame, a);
-    put_tail(out, tail, a)
+    let tail = lines::put_field(out, frame, a.frame);
+    let angles = a.angles;
+    lines::put_tail(out, tail, angles)
 }
 
 // Puts the line of orientation i at the start of a buffer.

@@ -3,17 +3,13 @@ use mathlib.Core.Path.{_≡_, refl, sym, _∙_}
 use mathlib.Core.Bool.{Bool, true, false, _||_, true≢false}
 use lib.Dec.{ltb}
 use lib.ListN.{length}
+use Rattle.bits.proofs.Tests.{or-left}
 use Rattle.streams.specs.Input.{inputLimit}
 use borrow.Author.Needs.{needs}
 use Rattle.inquiry.proofs.over.Statement.{statement}
 use Rattle.inquiry.proofs.over.Tie as tie
 
--- the first half of an `||` held, and so does the whole
-or-yes : (a b : Bool) → a ≡ true → a ≡ (a || b)
-or-yes true b e = refl
-or-yes false b e = absurd (true≢false (sym e))
-
--- it did not, and so the whole is the second half
+-- the first half of an `||` did not hold, and so the whole is the second
 or-no : (a b : Bool) → a ≡ false → b ≡ (a || b)
 or-no true b e = absurd (true≢false e)
 or-no false b e = refl
@@ -27,8 +23,8 @@ too-long-requires-2 c κs = search needs
 returns : tie.Need-returns
 returns c =
     let a = c .before .before .before .before .args in
-    c .before .too-long .ensures
-    ∙ or-yes (ltb inputLimit (length (a .kernel .now))) (ltb inputLimit (length (a .file .now))) (sym (c .before .too-long .ensures) ∙ c .if1 .taken)
+    c .if1 .taken
+    ∙ sym (or-left (ltb inputLimit (length (a .kernel .now))) (ltb inputLimit (length (a .file .now))) (sym (c .before .too-long .ensures) ∙ c .if1 .taken))
 
 returns-2 : tie.Need-returns-2
 returns-2 c =

@@ -22,31 +22,24 @@ told c =
     ∙ ap (λ (j : ℕ). digits 16 j n) (hex-places n k (omega arith) (c .hex .ensures .1 .0))
     ∙ ap (digits 16 16) (c .before .before .bits-of .ensures)
 
--- src/lib.rt:80:21
 bits-of-requires : tie.Need-bits-of-requires
 bits-of-requires c κs = search needs
 
--- src/lib.rt:80:9
 hex-requires : tie.Need-hex-requires
 hex-requires c κs = search needs
 
--- src/lib.rt:81:29
 slice-aggregate-put : tie.Need-slice-aggregate-put
 slice-aggregate-put c = search needs
 
--- src/lib.rt:81:9
 put-requires : tie.Need-put-requires
 put-requires c κs = search needs
 
--- src/lib.rt:82:20
 array-share-prefix-text : tie.Need-array-share-prefix-text
 array-share-prefix-text c = search needs
 
--- src/lib.rt:82:20
 slice-aggregate-put-2 : tie.Need-slice-aggregate-put-2
 slice-aggregate-put-2 c = search needs
 
--- src/lib.rt:82:5
 put-requires-2 : tie.Need-put-requires-2
 put-requires-2 c κs =
     let p = c .before .before .before .before in
@@ -55,11 +48,9 @@ put-requires-2 c κs =
     subst (λ (k : ℕ). p .put .result + k ≤ length (p .put .last .0)) (sym (ap length (told h) ∙ digits-length 16 16 (toBits binary64 (s .args .x))))
     (omega (arith, p .put .ensures .ends, p .put .kept .0))
 
--- src/lib.rt:74:1
 same-length : tie.Need-same-length
 same-length c = search needs
 
--- src/lib.rt:74:1
 returns : tie.Need-returns
 unfolding numberText
 returns c =

@@ -1,8 +1,7 @@
 -- `listing::put_head` meets its contract: four fields, one behind the other. Assumes nothing.
 use native.Mathlib.Omega.{arith}
-use Rattle.lines.proofs.Texts.{then}
+use Rattle.lines.proofs.Texts.{then, told}
 use Rattle.listing.specs.Lines.{headText}
-use Rattle.listing.proofs.Fields.{told}
 use borrow.Author.Needs.{needs}
 use Rattle.listing.proofs.put_head.Statement.{statement}
 use Rattle.listing.proofs.put_head.Tie as tie

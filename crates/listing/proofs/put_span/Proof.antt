@@ -1,8 +1,7 @@
 -- `listing::put_span` meets its contract: five texts, one behind the other. Assumes nothing.
 use native.Mathlib.Omega.{arith}
-use Rattle.lines.proofs.Texts.{then}
+use Rattle.lines.proofs.Texts.{then, told}
 use Rattle.listing.specs.Lines.{spanText}
-use Rattle.listing.proofs.Fields.{told}
 use borrow.Author.Needs.{needs}
 use Rattle.listing.proofs.put_span.Statement.{statement}
 use Rattle.listing.proofs.put_span.Tie as tie

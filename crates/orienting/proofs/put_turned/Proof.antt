@@ -1,6 +1,6 @@
 -- `orienting::put_turned` meets its contract: three texts, one behind the other. Assumes nothing.
 use native.Mathlib.Omega.{arith}
-use Rattle.lines.proofs.Texts.{then}
+use Rattle.lines.proofs.Texts.{then, told}
 use Rattle.orienting.specs.Lines.{turnedText}
 use borrow.Author.Needs.{needs}
 use Rattle.orienting.proofs.put_turned.Statement.{statement}
@@ -9,8 +9,8 @@ use Rattle.orienting.proofs.put_turned.Tie as tie
 put-decimal-requires : tie.Need-put-decimal-requires
 put-decimal-requires c κs = search needs
 
-put-frame-requires : tie.Need-put-frame-requires
-put-frame-requires c κs = search needs
+put-field-requires : tie.Need-put-field-requires
+put-field-requires c κs = search needs
 
 put-tail-requires : tie.Need-put-tail-requires
 put-tail-requires c κs = search needs
@@ -22,13 +22,14 @@ returns : tie.Need-returns
 unfolding turnedText
 returns c =
     let t = c .before .before in
-    let f = t .before .before .before .before in
-    let n = f .before .before .before .before in (
-      then (n .put-decimal .ensures .0) (then (f .put-frame .ensures .0) (t .put-tail .ensures .0)),
-      omega (arith, n .put-decimal .ensures .1, f .put-frame .ensures .1, t .put-tail .ensures .1),
+    let f = t .before .before .before .before .before in
+    let n = f .before .before .before .before .before in
+    let a = n .before .before .before .args .a in (
+      then (n .put-decimal .ensures .0) (then (told (a .frame) (search (needs, f .before .struct-told .given)) (f .put-field .ensures .0)) (t .put-tail .ensures .0)),
+      omega (arith, n .put-decimal .ensures .1, f .put-field .ensures .1, t .put-tail .ensures .1),
     )
 
 pub put-turned-spec : {M : Type 1} → statement M
 put-turned-spec =
     tie.close
-    (tie.spec put-decimal-requires put-frame-requires put-tail-requires same-length returns)
+    (tie.spec put-decimal-requires put-field-requires put-tail-requires same-length returns)

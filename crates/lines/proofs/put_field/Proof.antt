@@ -1,17 +1,16 @@
--- `listing::put_field` meets its contract: a space, then the number, which is widened. Assumes nothing.
+-- `lines::put_field` meets its contract: a space, then the number, which is widened. Assumes nothing.
 use mathlib.Core.Path.{subst}
 use mathlib.Core.List.{List, [], _∷_, _++_}
 use Prim.Native.Nat.{ℕ}
 use lib.IntN.{ℤ}
 use native.Mathlib.Omega.{arith}
-use Rattle.lines.proofs.Texts.{then}
 use Rattle.refusal.proofs.Widened.{whole-fits, whole}
-use Rattle.lines.specs.Text.{space, signedText}
+use Rattle.lines.specs.Text.{space, signedText, fieldText}
 use Rattle.lines.specs.Written.{Written}
-use Rattle.listing.specs.Lines.{fieldText}
+use Rattle.lines.proofs.Texts.{then}
 use borrow.Author.Needs.{needs}
-use Rattle.listing.proofs.put_field.Statement.{statement}
-use Rattle.listing.proofs.put_field.Tie as tie
+use Rattle.lines.proofs.put_field.Statement.{statement}
+use Rattle.lines.proofs.put_field.Tie as tie
 
 slice-aggregate-put : tie.Need-slice-aggregate-put
 slice-aggregate-put c = search needs

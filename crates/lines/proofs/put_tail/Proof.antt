@@ -1,10 +1,10 @@
--- `orienting::put_tail` meets its contract: the six numbers, then the newline. Assumes nothing.
+-- `lines::put_tail` meets its contract: the state, then the newline. Assumes nothing.
 use native.Mathlib.Omega.{arith}
 use Rattle.lines.proofs.Texts.{then}
-use Rattle.orienting.specs.Lines.{tailText}
+use Rattle.lines.specs.Text.{tailText}
 use borrow.Author.Needs.{needs}
-use Rattle.orienting.proofs.put_tail.Statement.{statement}
-use Rattle.orienting.proofs.put_tail.Tie as tie
+use Rattle.lines.proofs.put_tail.Statement.{statement}
+use Rattle.lines.proofs.put_tail.Tie as tie
 
 put-state-requires : tie.Need-put-state-requires
 put-state-requires c κs = search needs
