@@ -1,5 +1,5 @@
 -- Texts put one behind the other, fields of a struct, and what `io`'s digits come to. Assumes nothing.
-use mathlib.Core.Path.{_≡_, refl, sym, ap, _∙_, subst}
+use mathlib.Core.Path.{_≡_, refl, sym, ap, ap₂, _∙_, subst}
 use mathlib.Core.Bool.{Bool, true, false, cond}
 use mathlib.Core.List.{List, [], _∷_, _++_, append-assoc}
 use Prim.Native.Nat.{ℕ, zero, suc, _+_, _-_, _*_, _/_, _%_, _^_, _≤_, _<_}
@@ -7,7 +7,8 @@ use native.Mathlib.Nat.{le-antisymm, lt-of-lt-of-le, mod-eq-of-lt, div-lt-iff-lt
 use native.Mathlib.Omega.{arith}
 use lib.Dec.{ltb, lit≤}
 use lib.IntN.{ℤ}
-use lib.ListN.{length, take, length-append}
+use lib.ListN.{length, take, drop, take-append-drop, length-append}
+use lib.Seq.{drop-drop}
 use mir.Syntax.{w32}
 use mir.Val.{SFits, toZ, ofZ}
 use mir.ValLaws.{toZ-ofZ}
@@ -19,10 +20,30 @@ use Rattle.lines.specs.Written.{Written}
 -- one text behind another
 pub then : {before : List ℕ} {at : ℕ} {first second : List ℕ} {middle after : List ℕ} {next last : ℕ}
     → Written before at first middle next → Written middle next second after last → Written before at (first ++ second) after last
-then {before} {at} {first} {second} a b = record {
+then {before} {at} {first} {second} {middle} {after} {next} {last} a b = record {
   ends = b .ends ∙ ap (λ (k : ℕ). k + length second) (a .ends) ∙ omega (arith, length-append first second);
   reads = b .reads ∙ ap (λ (l : List ℕ). l ++ second) (a .reads) ∙ append-assoc (take at before) first second;
+  rest =
+      b .rest
+      ∙ ap (λ (k : ℕ). drop k middle) (b .ends)
+      ∙ sym (drop-drop (length second) next middle)
+      ∙ ap (drop (length second)) (a .rest)
+      ∙ drop-drop (length second) next before
+      ∙ ap (λ (k : ℕ). drop k before) (sym (b .ends));
 }
+
+-- any two buffers and places that it permits are equal
+pub two-texts : {before : List ℕ} {at : ℕ} {text : List ℕ} (after after' : List ℕ) (next next' : ℕ)
+    → Written before at text after next → Written before at text after' next' → (after ≡ after') × (next ≡ next')
+two-texts {before} {at} {text} after after' next next' a b = (
+  sym (take-append-drop next after)
+      ∙ ap₂ _++_ (a .reads ∙ sym (b .reads)) (a .rest ∙ ap (λ (k : ℕ). drop k before) same ∙ sym (b .rest))
+      ∙ take-append-drop next' after',
+  same,
+)
+  where
+    same : next ≡ next'
+    same = a .ends ∙ sym (b .ends)
 
 -- a field of a struct, read back from its bits
 pub told : {b a : List ℕ} {at r : ℕ} (z : ℤ) → SFits w32 z → Written b at (fieldText (toZ w32 (ofZ w32 z))) a r → Written b at (fieldText z) a r

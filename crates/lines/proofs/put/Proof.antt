@@ -5,8 +5,8 @@ use native.Mathlib.Nat.{le-antisymm}
 use native.Mathlib.Numerals.{add-one}
 use native.Mathlib.Omega.{arith}
 use mathlib.Core.List.{List, _++_}
-use lib.ListN.{length, take, set, getD, length-set}
-use lib.Seq.{paste, paste-zero, paste-suc, length-paste, take-paste, take-length}
+use lib.ListN.{length, take, drop, set, getD, length-set}
+use lib.Seq.{paste, paste-zero, paste-suc, length-paste-head, take-paste, take-length, drop-append-seam}
 use borrow.Author.Needs.{needs}
 use Rattle.lines.specs.Written.{Written}
 use Rattle.lines.proofs.put.Statement.{statement}
@@ -23,6 +23,10 @@ whole : (before : List ℕ) (at : ℕ) (text : List ℕ) (after : List ℕ) (i :
 whole before at text after i fits all copied = record {
   ends = ap (λ (k : ℕ). at + k) all;
   reads = ap (take (at + i)) copied ∙ take-paste before at text i (omega arith) (omega arith) ∙ ap (λ (t : List ℕ). take at before ++ t) (ap (λ (k : ℕ). take k text) all ∙ take-length text);
+  rest =
+      ap (drop (at + i)) copied
+      ∙ ap (λ (k : ℕ). drop k (paste before at text i)) (sym (length-paste-head before at text i (omega arith) (omega arith)))
+      ∙ drop-append-seam (take at before ++ take i text) (drop (at + i) before);
 }
 
 loop-holds : tie.Need-loop-holds Inv-loop μ-loop
