@@ -77,11 +77,11 @@ fn overlaps(a: Segment, b: Segment) -> bool
     same_pair(a, b) && meets(a, b)
 }
 
-// Segment k, which is b, is another than segment i, which is a, and overlaps it.
+// Segment k, which is b, is another than segment i, which is a, and overlaps it. That it is another is asked last: few overlap.
 fn rivals(a: Segment, i: usize, b: Segment, k: usize) -> bool
     ensures { λ r. ⌜ r ≡ rivals a i b k ⌝ }
 {
-    k != i && overlaps(a, b)
+    overlaps(a, b) && k != i
 }
 
 // The segment with this mark.
