@@ -46,9 +46,13 @@ recordsAt k e =
       count = wholeNumber (doubleOfAddress k e);
     }
 
--- The last two of types 9 and 13: the degree and N.
+-- The numbers of types 9 and 13, degree and N; INIT and INTLEN are none of them.
+abbrev pub statesTrailer : ℕ → ℕ → Trailer
+statesTrailer d n = record { init = +0; intlen = +0; size = d; count = n }
+
+-- The last two doubles of types 9 and 13.
 abbrev pub statesAt : List ℕ → ℕ → Trailer
-statesAt k e = record { init = +0; intlen = +0; size = wholeNumber (doubleOfAddress k (e - 1)); count = wholeNumber (doubleOfAddress k e) }
+statesAt k e = statesTrailer (wholeNumber (doubleOfAddress k (e - 1))) (wholeNumber (doubleOfAddress k e))
 
 -- The trailer of data in this form whose last double has address e.
 unfoldable pub trailerAt : List ℕ → Form → ℕ → Trailer
@@ -82,8 +86,8 @@ abbrev pub trailerIn : Kind → Trailer
 trailerIn Unsupported = noTrailer
 trailerIn (Type2 init intlen rsize n) = record { init = init; intlen = intlen; size = rsize; count = n }
 trailerIn (Type3 init intlen rsize n) = record { init = init; intlen = intlen; size = rsize; count = n }
-trailerIn (Type9 d n) = record { init = +0; intlen = +0; size = d; count = n }
-trailerIn (Type13 d n) = record { init = +0; intlen = +0; size = d; count = n }
+trailerIn (Type9 d n) = statesTrailer d n
+trailerIn (Type13 d n) = statesTrailer d n
 
 -- Two trailers are one: INIT and INTLEN by their bits.
 abbrev pub sameTrailer : Trailer → Trailer → Bool

@@ -7,7 +7,7 @@ ghost use lib.IntN.{natAbs};
 ghost use lib.Signed.{nonNeg};
 ghost use lib.ListN.{length};
 ghost use Rattle.daf.specs.Addresses.{byteOf, doubleOfAddress};
-ghost use Rattle.segment.specs.Kinds.{formOf, handled, wholeNumber, recordsAt, statesAt, trailerAt, kindWith, typeIn, trailerIn, sameTrailer, sameKind};
+ghost use Rattle.segment.specs.Kinds.{formOf, handled, wholeNumber, recordsAt, statesTrailer, statesAt, trailerAt, kindWith, typeIn, trailerIn, sameTrailer, sameKind};
 ghost use Rattle.segment.specs.Malformed.{limitNan, misplaced, trailerSize, coefficients, badSize, badInterval, overruns, badRecords, badLength, badStates, badTrailer, found, segmentWith, judged};
 ghost use Rattle.segment.specs.Evaluating.{unsupported, unfit, recordByte, evaluated, valued, Records, States, Sound};
 use cheby::Cheby;
@@ -109,6 +109,18 @@ impl Trailer {
         size: 0,
         count: 0,
     };
+
+    // The numbers of types 9 and 13; INIT and INTLEN are none of them.
+    fn of_states(degree: u64, count: u64) -> Trailer
+        ensures { λ r. ⌜ r ≡ statesTrailer degree count ⌝ }
+    {
+        Trailer {
+            init: 0.0,
+            intlen: 0.0,
+            size: degree,
+            count,
+        }
+    }
 }
 
 // What the tests of refusal 9 find: the kind that the trailer makes, or that one of them fails.
@@ -203,12 +215,7 @@ fn states_at(kernel: &[u8], end: usize) -> Trailer
     requires { ⌜ (2 ≤ end) × (8 * end ≤ length (now kernel)) ⌝ }
     ensures { λ r. ⌜ r ≡ statesAt (now (kernel .entry)) end ⌝ }
 {
-    Trailer {
-        init: 0.0,
-        intlen: 0.0,
-        size: whole_at(kernel, end - 1),
-        count: whole_at(kernel, end),
-    }
+    Trailer::of_states(whole_at(kernel, end - 1), whole_at(kernel, end))
 }
 
 // The trailer of data in this form.
@@ -486,18 +493,8 @@ fn trailer_in(kind: Kind) -> Trailer
             size: rsize,
             count,
         },
-        Kind::Type9 { degree, count } => Trailer {
-            init: 0.0,
-            intlen: 0.0,
-            size: degree,
-            count,
-        },
-        Kind::Type13 { degree, count } => Trailer {
-            init: 0.0,
-            intlen: 0.0,
-            size: degree,
-            count,
-        },
+        Kind::Type9 { degree, count } => Trailer::of_states(degree, count),
+        Kind::Type13 { degree, count } => Trailer::of_states(degree, count),
     }
 }
 

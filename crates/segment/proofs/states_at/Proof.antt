@@ -12,8 +12,11 @@ whole-at-requires c κs = search needs
 whole-at-requires-2 : tie.Need-whole-at-requires-2
 whole-at-requires-2 c κs = search needs
 
+of-states-requires : tie.Need-of-states-requires
+of-states-requires c κs = search needs
+
 returns : tie.Need-returns
 returns c = cc
 
 pub states-at-spec : {M : Type 1} → statement M
-states-at-spec = tie.close (tie.spec sub-whole-at whole-at-requires whole-at-requires-2 returns)
+states-at-spec = tie.close (tie.spec sub-whole-at whole-at-requires whole-at-requires-2 of-states-requires returns)
