@@ -86,6 +86,8 @@ def distances(program, kernel, pair, unit, formula):
 
 
 def main():
+    if len(sys.argv) < 3:
+        sys.exit("usage: check.py KERNEL PROGRAM")
     kernel, program = sys.argv[1], sys.argv[2:]
     worst = initial_conditions(program, kernel)
     sun, near, far = distances(program, kernel, (399, 10), AU, sun_distance)
