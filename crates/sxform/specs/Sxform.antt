@@ -1,22 +1,17 @@
 -- Sums and products of 3 by 3 matrices, the 6 by 6 matrices made of them, and what those do to a state.
 use Prim.Native.Nat.{ℕ, _+_, _-_}
 use mathlib.Core.Bool.{cond}
-use mathlib.Core.List.{List, []}
+use mathlib.Core.List.{List}
 use lib.Dec.{ltb}
-use lib.ListN.{getD}
 use lib.Ieee.{Float}
 use Rattle.bits.specs.F64.{_⊕_, _⊗_, at, +0, sumFrom0}
 use Rattle.frame.specs.State.{number, stateOf}
 use Rattle.frame.specs.Frame.{Matrix, table, matrix, cell}
 use Rattle.frame.specs.declared.State.{State}
 
--- A row of three times a 3 by 3 matrix: unlike the rotation's, each sum starts at +0.
-abbrev pub rowTimes : List Float → Matrix → List Float
-rowTimes r b = table 3 (λ j. sumFrom0 (λ k. at r k ⊗ cell b k j) 3)
-
--- The product of two 3 by 3 matrices.
+-- The product of two 3 by 3 matrices: unlike the rotation's, each sum starts at +0.
 abbrev pub productOf : Matrix → Matrix → Matrix
-productOf a b = table 3 (λ i. rowTimes (getD a i []) b)
+productOf a b = matrix 3 (λ i j. sumFrom0 (λ k. cell a i k ⊗ cell b k j) 3)
 
 -- The sum of two 3 by 3 matrices.
 abbrev pub sumOf : Matrix → Matrix → Matrix
@@ -34,10 +29,16 @@ sxformOf r dr = blocks (cell r) (λ i j. +0) (cell dr) (cell r)
 abbrev pub inverseOf : Matrix → Matrix
 inverseOf m = blocks (λ i j. cell m j i) (λ i j. +0) (λ i j. cell m (j + 3) i) (λ i j. cell m (j + 3) (i + 3))
 
+-- A 6 by 6 matrix times a state: each sum starts at +0.
+abbrev pub appliedState : Matrix → State → State
+appliedState m s = stateOf (λ i. sumFrom0 (λ j. cell m i j ⊗ number s j) 6)
+
+-- ---- what the small functions of the code do
+
+-- A row of three times a 3 by 3 matrix: a row of their product.
+abbrev pub rowTimes : List Float → Matrix → List Float
+rowTimes r b = table 3 (λ j. sumFrom0 (λ k. at r k ⊗ cell b k j) 3)
+
 -- A row of six times a state: the sum starts at +0.
 abbrev pub timesState : List Float → State → Float
 timesState r s = sumFrom0 (λ j. at r j ⊗ number s j) 6
-
--- A 6 by 6 matrix times a state.
-abbrev pub appliedState : Matrix → State → State
-appliedState m s = stateOf (λ i. timesState (getD m i []) s)
