@@ -34,3 +34,12 @@ while IFS=$'\t' read -r name mode what; do
   o=$(per_pass "$ours" "$mode" "$name" "$ours_loop")
   awk -v w="$what" -v a="$o" -v b="$r" 'BEGIN { printf "| %s | %d | %d | %.2f |\n", w, a, b, a / b }'
 done < target/scenarios/list.tsv
+
+echo
+echo "| 8,192 usage records of 512 suppliers | instructions a record |"
+echo "|---|---|"
+while IFS=$'\t' read -r name what; do
+  answers add "$name"
+  # shellcheck disable=SC2046
+  awk -v a="$(./count.sh "$ours" add $(files "$name"))" -v w="$what" 'BEGIN { printf "| %s | %.0f |\n", w, a / 8192 }'
+done < target/scenarios/usage.tsv

@@ -2,10 +2,12 @@
 """scenarios.py FOLDER: the kernels and questions that both sides are measured on, and their list.
 
 Writes NAME.kernel and NAME.questions, and list.tsv: name, mode, what is measured. Sixteen questions each, in
-several records; every question is answered. Numbers are of ordinary size, the same in every run.
+several records; every question is answered. Numbers are of ordinary size, the same in every run. And usage files as
+NAME.kernel beside an empty NAME.questions, with usage.tsv: name, what it is.
 """
 
 import os
+import struct
 import sys
 
 sys.path.insert(0, os.path.join(os.path.dirname(os.path.abspath(__file__)), "../tests/oracle"))
@@ -66,6 +68,22 @@ def scenarios(chance):
     yield "open-256", "open", "opening, 256 segments", full, (1128, 0)
 
 
+def usage_files(chance):
+    """Name, what it is, suppliers: 8,192 records of 512 suppliers, in the order in which they are named."""
+    suppliers = [8388608 * i + chance.below(8388608) for i in range(512)]
+    drawn = [suppliers[chance.below(512)] for _ in range(7680)] + suppliers
+    for i in range(len(drawn) - 1, 0, -1):
+        j = chance.below(i + 1)
+        drawn[i], drawn[j] = drawn[j], drawn[i]
+    yield "usage-drawn", "in an order drawn by lot", drawn
+    yield "usage-rising", "rising, sixteen times over", suppliers * 16
+    yield "usage-falling", "falling, sixteen times over", suppliers[::-1] * 16
+
+
+def usage_record(supplier):
+    return b"\xa5\x5a" + struct.pack("<HI", supplier % 4096, supplier)
+
+
 def main():
     folder = sys.argv[1]
     os.makedirs(folder, exist_ok=True)
@@ -80,6 +98,13 @@ def main():
         lines.append(f"{name}\t{mode}\t{what}\n")
     with open(os.path.join(folder, "list.tsv"), "w") as f:
         f.writelines(lines)
+    with open(os.path.join(folder, "usage.tsv"), "w") as f:
+        for name, what, suppliers in usage_files(Chance(2)):
+            with open(os.path.join(folder, f"{name}.kernel"), "wb") as out:
+                out.write(b"".join(map(usage_record, suppliers)))
+            with open(os.path.join(folder, f"{name}.questions"), "wb"):
+                pass
+            f.write(f"{name}\t{what}\n")
 
 
 if __name__ == "__main__":

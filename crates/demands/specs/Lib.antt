@@ -1,2 +1,3 @@
 -- What is proved beyond the contracts.
 pub mod Demands
+pub mod Statements

@@ -1,7 +1,8 @@
 // measure MODE KERNEL QUESTIONS PASSES: our side of bench/, a loop to count instructions in. Each pass takes the next question, the first
 // again after the last. MODE: `remember` lets the memory go from question to question, `forget` asks each with none; `orient` asks a PCK
-// kernel; `open` opens the kernel once a pass; `nothing` only goes through the questions. It writes the sum of the answers, so that
-// each has to be worked out, and ends at the first refusal. No contract can speak of what is written.
+// kernel; `open` opens the kernel once a pass; `add` takes KERNEL for a usage file and adds it up once a pass; `nothing` only goes through
+// the questions. It writes the sum of the answers, so that each has to be worked out, and ends at the first refusal. No contract can speak
+// of what is written.
 ghost use Prim.Native.Nat.{_+_, _*_, _≤_, _<_};
 ghost use lib.ListN.{length};
 ghost use Rattle.io.specs.Counts.{Counts};
@@ -95,6 +96,33 @@ fn open(kernel: &[u8], passes: u64) -> State {
         let t = opened.table;
         let s = t.segments[0];
         sum.x = sum.x + s.last;
+        i += 1;
+    }
+    sum
+}
+
+// The usage file was added up; where not, a line on the error output says so.
+fn added(outcome: tally::Outcome) -> bool {
+    match outcome {
+        tally::Outcome::Stated => true,
+        tally::Outcome::Refused(_) => {
+            streams::complain(b"measure: the usage file was refused\n");
+            false
+        }
+    }
+}
+
+// Adds up a usage file.
+fn add(usage: &[u8], passes: u64) -> State {
+    let mut sum = State::zero();
+    let mut i: u64 = 0;
+    while i < passes {
+        let s = tally::add_up(usage);
+        let outcome = s.outcome;
+        if !added(outcome) {
+            return sum;
+        }
+        sum.x = sum.x + std::num::nearest_u64_to_f64(s.counts[0]);
         i += 1;
     }
     sum
@@ -201,6 +229,9 @@ fn run(kernel: &[u8], asked: &[u8], mode: &[u8], passes: u64) -> State {
     }
     if check::same(mode, b"open") {
         return open(kernel, passes);
+    }
+    if check::same(mode, b"add") {
+        return add(kernel, passes);
     }
     over(kernel, asked, mode, passes)
 }

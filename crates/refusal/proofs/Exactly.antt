@@ -2,7 +2,8 @@
 -- Assumes nothing.
 use Prim.Native.Nat.{ℕ, zero, suc, _<_}
 use mathlib.Core.Path.{_≡_, refl, sym, ap, _∙_, subst}
-use mathlib.Core.Bool.{Bool, true, false, cond, not, _&&_, true≢false}
+use mathlib.Core.Bool.{Bool, true, false, cond, not, _&&_}
+use mathlib.Core.Logic.{_⊎_, inl, inr}
 use mathlib.Core.List.{List, [], _∷_, _++_}
 use native.Mathlib.Omega.{arith}
 use lib.Dec.{T, eqb, eqb-refl}
@@ -49,6 +50,19 @@ pub first-through : {A B : Type 0} (cs : List Case) (refused : Refusal → A) (a
 first-through [] refused answer f = refl
 first-through (c ∷ cs) refused answer f =
     by-test (c .holds) (λ q. rw q) (λ q. rw q (first-through cs refused answer f))
+
+-- two outcomes of one order of tests: both refuse, and with the same refusal, or both answer
+module _ {A B : Type 0} (refused : Refusal → A) (answer : A) (refused' : Refusal → B) (answer' : B) where
+  abbrev pub Alike : A → B → Type 0
+  Alike x y = ((r : Refusal) × (x ≡ refused r) × (y ≡ refused' r)) ⊎ ((x ≡ answer) × (y ≡ answer'))
+
+  by-one : (c : Case) (b : Bool) (x : A) (y : B) → Alike x y → Alike (cond b (refused (c .gives)) x) (cond b (refused' (c .gives)) y)
+  by-one c true x y a = inl (c .gives, refl, refl)
+  by-one c false x y a = a
+
+  pub first-two : (cs : List Case) → Alike (firstOf cs refused answer) (firstOf cs refused' answer')
+  first-two [] = inr (refl, refl)
+  first-two (c ∷ cs) = by-one c (c .holds) (firstOf cs refused answer) (firstOf cs refused' answer') (first-two cs)
 
 module _ {A : Type 0} (refused : Refusal → A) (answer : A) where
   -- one case, by its test

@@ -41,6 +41,8 @@ pub enum Refusal {
     InputTooLong,
     // 19: a record of a program's input doesn't begin with its mark, or is cut short
     BadRecord,
+    // 20: a usage file names a 513th supplier
+    TooManySuppliers,
 }
 
 impl Refusal {
@@ -68,6 +70,7 @@ impl Refusal {
             Refusal::NoSegment => 17,
             Refusal::InputTooLong => 18,
             Refusal::BadRecord => 19,
+            Refusal::TooManySuppliers => 20,
         }
     }
 
@@ -95,6 +98,7 @@ impl Refusal {
             Refusal::NoSegment => 0,
             Refusal::InputTooLong => 0,
             Refusal::BadRecord => 0,
+            Refusal::TooManySuppliers => 0,
         }
     }
 }

@@ -88,6 +88,9 @@ enum-told-13 c = search needs
 enum-told-14 : tie.Need-enum-told-14
 enum-told-14 c = search needs
 
+enum-told-15 : tie.Need-enum-told-15
+enum-told-15 c = search needs
+
 returns : tie.Need-returns
 returns c = sym (ap detailOf (c .enum-told .given .1))
 
@@ -145,6 +148,9 @@ returns-18 c = sym (ap detailOf (c .enum-told13 .given .1))
 returns-19 : tie.Need-returns-19
 returns-19 c = sym (ap detailOf (c .enum-told14 .given .1))
 
+returns-20 : tie.Need-returns-20
+returns-20 c = sym (ap detailOf (c .enum-told15 .given .1))
+
 pub detail-spec : {M : Type 1} → statement M
 detail-spec =
     tie.close
@@ -173,6 +179,7 @@ detail-spec =
     enum-told-12
     enum-told-13
     enum-told-14
+    enum-told-15
     returns
     returns-2
     returns-3
@@ -191,4 +198,5 @@ detail-spec =
     returns-16
     returns-17
     returns-18
-    returns-19)
+    returns-19
+    returns-20)

@@ -1,0 +1,2 @@
+-- Laws that the functions' proofs and other crates cite.
+pub mod Lines
