@@ -8,10 +8,11 @@ words below (refusal 9, 14 and so on) are document 01's.
     second.py ask KERNEL QUESTIONS [MATRIX]
     second.py orient KERNEL QUESTIONS
     second.py alone KERNEL NUMBERS-AND-EPOCHS
+    second.py statement < USAGE
 
 As a library: open_spk, open_pck, state, state_in, orientation, alone,
-alone_pck, name, turn, turn_back.  A table is plain data: anybody may build
-or change one.
+alone_pck, name, turn, turn_back, statement.  A table is plain data: anybody
+may build or change one.
 """
 
 import math
@@ -28,6 +29,7 @@ MOST_SEGMENTS = 256
 LARGEST_WINDOW = 32
 MOST_STEPS = 32
 LARGEST_INPUT = 65536
+MOST_SUPPLIERS = 512
 SUMMARY_LENGTH = 40
 NAME_LENGTH = 40
 
@@ -53,6 +55,10 @@ Answer = namedtuple("Answer", "way segment six")
 
 # A PCK answer: reference frame and the six numbers.
 Orientation = namedtuple("Orientation", "frame six")
+
+# A usage statement: (supplier, count) pairs in order of number, and the
+# total.
+Statement = namedtuple("Statement", "suppliers total")
 
 # The kinds of segment: types 2 and 3, types 9 and 13; None is unsupported.
 Chebyshev = namedtuple("Chebyshev", "type init intlen rsize n")
@@ -740,6 +746,29 @@ def orientation(kernel, table, body_frame, et):
     return Orientation(segment.frame, six)
 
 
+# Usage statements
+
+USAGE_MARK = b"\xa5\x5a"
+USAGE_LENGTH = 8
+
+
+def statement(usage):
+    """The Statement of a usage file of any length, or a Refusal for its
+    first fault in file order."""
+    counts = {}
+    for place in range(0, len(usage), USAGE_LENGTH):
+        record = usage[place:place + USAGE_LENGTH]
+        if len(record) < USAGE_LENGTH or bytes(record[0:2]) != USAGE_MARK:
+            return Refusal(19, 0)
+        supplier = unsigned32(record, 4)
+        if supplier not in counts:
+            if len(counts) == MOST_SUPPLIERS:
+                return Refusal(20, 0)
+            counts[supplier] = 0
+        counts[supplier] += 1
+    return Statement(sorted(counts.items()), len(usage) // USAGE_LENGTH)
+
+
 # Programs
 
 class Misused(Exception):
@@ -858,6 +887,17 @@ def alone_lines(kernel, table, records):
     return lines
 
 
+def statement_lines(usage):
+    """The lines of the statement program."""
+    if len(usage) > LARGEST_INPUT:
+        return [refused_line(Refusal(18, 0))]
+    found = statement(usage)
+    if isinstance(found, Refusal):
+        return [refused_line(found)]
+    return (["%d %d" % pair for pair in found.suppliers]
+            + ["total %d" % found.total])
+
+
 def read_file(path):
     try:
         with open(path, "rb") as opened:
@@ -868,15 +908,19 @@ def read_file(path):
 
 def run(arguments):
     """The lines of a call's standard output."""
-    counts = {"listing": (0,), "ask": (2, 3), "orient": (2,), "alone": (2,)}
+    counts = {"listing": (0,), "ask": (2, 3), "orient": (2,), "alone": (2,),
+              "statement": (0,)}
     if not arguments or arguments[0] not in counts:
-        raise Misused("the first argument is listing, ask, orient or alone")
+        raise Misused("the first argument is listing, ask, orient, alone or "
+                      "statement")
     program, paths = arguments[0], arguments[1:]
     if len(paths) not in counts[program]:
         raise Misused("%s takes %s file names, not %d" % (
             program, " or ".join(map(str, counts[program])), len(paths)))
     if program == "listing":
         return listing_lines(sys.stdin.buffer.read())
+    if program == "statement":
+        return statement_lines(sys.stdin.buffer.read())
     return answer_lines(program, *[read_file(path) for path in paths])
 
 

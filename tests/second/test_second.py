@@ -22,7 +22,7 @@ sys.path.insert(0, os.path.dirname(os.path.abspath(__file__)))
 
 import second
 from second import (Answer, Chebyshev, Discrete, Orientation, Refusal,
-                    Segment, Table)
+                    Segment, Statement, Table)
 
 NAN = math.nan
 INF = math.inf
@@ -145,6 +145,12 @@ def example():
     return bytes(kernel)
 
 
+def usage(suppliers, segment=0):
+    """A usage file, one record for each supplier given."""
+    return b"".join(b"\xa5\x5a" + struct.pack("<HI", segment, supplier)
+                    for supplier in suppliers)
+
+
 def patched(kernel, place, new):
     return kernel[:place] + new + kernel[place + len(new):]
 
@@ -224,6 +230,8 @@ class EveryRefusal(Base):
         self.refuses(second.alone(b"", Table(), 0, 0.0), 17)
         self.assertEqual(second.listing_lines(bytes(65537)),
                          ["refused 18 0"])
+        self.refuses(second.statement(b"\0"), 19)
+        self.refuses(second.statement(usage(range(513))), 20)
         self.assertIsInstance(ask(*self.segment(constant(1.0)), 0.0), Answer)
 
 
@@ -1498,6 +1506,138 @@ class Pck(Base):
         self.refuses(got, 12, 0)
 
 
+class Usage(Base):
+    def states(self, file, suppliers):
+        """The file is good, and its statement has these pairs."""
+        self.assertEqual(second.statement(file), Statement(
+            suppliers, sum(count for _, count in suppliers)))
+
+    def test_empty(self):
+        self.states(b"", [])
+
+    def test_one_record(self):
+        self.states(b"\xa5\x5a\x00\x00\x07\x00\x00\x00", [(7, 1)])
+
+    def test_any_bytes(self):
+        for kind in (bytes, bytearray, memoryview):
+            self.states(kind(usage([2, 1, 2])), [(1, 1), (2, 2)])
+            self.refuses(second.statement(kind(usage([2])[:7])), 19)
+
+    def test_order_of_number(self):
+        self.states(usage([9, 4]), [(4, 1), (9, 1)])
+        self.states(usage([9, 4, 9, 9, 4]), [(4, 2), (9, 3)])
+        # As numbers, not as their decimals or their bytes.
+        self.states(usage([10, 9, 256, 1, 255]),
+                    [(1, 1), (9, 1), (10, 1), (255, 1), (256, 1)])
+        # Unsigned.
+        self.states(usage([2 ** 31, 2 ** 31 - 1, 2 ** 32 - 1, 0]),
+                    [(0, 1), (2 ** 31 - 1, 1), (2 ** 31, 1),
+                     (2 ** 32 - 1, 1)])
+
+    def test_little_endian(self):
+        self.states(b"\xa5\x5a\x00\x00\x01\x02\x03\x04", [(0x04030201, 1)])
+        self.states(usage([1, 0x01000000]), [(1, 1), (0x01000000, 1)])
+
+    def test_segment_is_not_looked_at(self):
+        for segment in (0, 1, 256, 257, 0x5AA5, 65535):
+            self.states(usage([3, 3], segment), [(3, 2)])
+        self.states(usage([3], 0) + usage([3], 65535) + usage([2], 9),
+                    [(2, 1), (3, 2)])
+
+    def test_ends_of_the_numbers(self):
+        self.states(usage([2 ** 32 - 1, 0, 2 ** 32 - 1]),
+                    [(0, 1), (2 ** 32 - 1, 2)])
+
+    def test_19_mark(self):
+        good = usage([1])
+        for mark in (b"\x5a\xa5", b"\xa5\x5b", b"\xa5\x5c", b"\xa5\x5d",
+                     b"\xa4\x5a", b"\x00\x5a", b"\xa5\x00", b"\x00\x00",
+                     b"\xa5\xa5", b"\x5a\x5a"):
+            broken = patched(good, 0, mark)
+            for file in (broken, good + broken, broken + good,
+                         good + broken + good):
+                self.refuses(second.statement(file), 19)
+
+    def test_19_cut_short(self):
+        for whole in (b"", usage([1]), usage([1, 2, 1])):
+            for left in range(1, 8):
+                self.refuses(second.statement(whole + usage([1])[:left]), 19)
+                self.refuses(second.statement(whole + bytes(left)), 19)
+
+    def test_19_records_stand_every_8_bytes(self):
+        # A mark elsewhere begins no record.
+        self.refuses(second.statement(b"\0" + usage([1, 2])), 19)
+        self.refuses(second.statement(usage([1]) + b"\xa5" + usage([2])), 19)
+        self.states(usage([0x5AA55AA5], 0x5AA5), [(0x5AA55AA5, 1)])
+
+    def test_20_512_and_513(self):
+        chance = random.Random(6)
+        numbers = chance.sample(range(2 ** 32), 513)
+        for order in (sorted(numbers), sorted(numbers, reverse=True),
+                      numbers):
+            pairs = [(number, 1) for number in sorted(order[:512])]
+            self.states(usage(order[:512]), pairs)
+            self.refuses(second.statement(usage(order)), 20)
+            # Known suppliers may go on.
+            pairs = [(number, 2) for number in sorted(order[:512])]
+            self.states(usage(order[:512] + order[511::-1]), pairs)
+            self.refuses(second.statement(
+                usage(order[:512] * 2 + order[512:])), 20)
+
+    def test_first_fault_counts(self):
+        full = usage(range(512))
+        over = full + usage([512])
+        broken = b"\xa5\x5b" + usage([0])[2:]
+        for file, number in (
+                (patched(over, 0, b"\0"), 19),
+                (patched(over, 8 * 511, b"\0"), 19),
+                (full + broken + usage([512]), 19),
+                (patched(over, 8 * 512, b"\0"), 19),
+                (patched(over, 8 * 512 + 1, b"\0"), 19),
+                (over + broken, 20),
+                (over + usage([0]) + broken, 20),
+                (broken + over + broken, 19)):
+            self.refuses(second.statement(file), number)
+        for left in range(1, 8):
+            self.refuses(second.statement(over + usage([0])[:left]), 20)
+            self.refuses(second.statement(over[:-left]), 19)
+
+    def test_any_length(self):
+        # The function has no largest file; 18 is the program's.
+        self.states(usage([5]) * 8193, [(5, 8193)])
+        self.states(usage([1, 2]) * 50000, [(1, 50000), (2, 50000)])
+
+    def test_laws(self):
+        chance = random.Random(7)
+        for _ in range(200):
+            a, b = ([chance.randrange(20) << chance.randrange(28)
+                     for _ in range(chance.randrange(60))] for _ in "ab")
+            both = second.statement(usage(a) + usage(b))
+            self.assertEqual(both.total, len(a) + len(b))
+            self.assertEqual(both.suppliers, [
+                (number, a.count(number) + b.count(number))
+                for number in sorted(set(a + b))])
+            mixed = a + b
+            chance.shuffle(mixed)
+            self.assertEqual(second.statement(usage(mixed)), both)
+
+    def test_every_flipped_bit(self):
+        file = usage([0x01020304, 0x01020304], 5)
+        for bit in range(8 * len(file)):
+            damaged = bytearray(file)
+            damaged[bit // 8] ^= 1 << bit % 8
+            got = second.statement(bytes(damaged))
+            place = bit // 8 % 8
+            if place < 2:
+                self.refuses(got, 19)
+            elif place < 4:
+                self.states(bytes(damaged), [(0x01020304, 2)])
+            else:
+                other = 0x01020304 ^ 1 << bit % 64 - 32
+                self.states(bytes(damaged), sorted([(0x01020304, 1),
+                                                    (other, 1)]))
+
+
 class Damaged(Base):
     """Nothing escapes but answers of six finite numbers and refusals."""
 
@@ -1738,6 +1878,36 @@ class Programs(Base):
                  "refused 12 8\nrefused 17 0\nrefused 17 0\nrefused 10 0\n")
              .encode(), b""))
 
+    def test_statement(self):
+        file = usage([4294967295, 7, 0, 7], 3)
+        self.assertEqual(self.run_program("statement", stdin=file), (
+            0, b"0 1\n7 2\n4294967295 1\ntotal 4\n", b""))
+        self.assertEqual(self.run_program("statement"), (
+            0, b"total 0\n", b""))
+        self.assertEqual(self.run_program("statement", stdin=file[:-1]), (
+            0, b"refused 19 0\n", b""))
+        # Bytes that a text reader would change.
+        file = usage([0x0A0D0A0D, 0x1A1A1A1A], 0x0A0D)
+        self.assertEqual(self.run_program("statement", stdin=file), (
+            0, b"168626701 1\n437918234 1\ntotal 2\n", b""))
+
+    def test_statement_refusals(self):
+        for file, expected in (
+                (b"x", "refused 19 0"),
+                (usage(range(513)), "refused 20 0"),
+                (bytes(65536), "refused 19 0"),
+                (bytes(65537), "refused 18 0"),
+                (usage(range(8192)), "refused 20 0"),
+                (usage(range(8192)) + b"\xa5", "refused 18 0"),
+                (usage([1]) * 8193, "refused 18 0"),
+                (usage([1]) * 8192 + b"\xa5", "refused 18 0"),
+                ((usage([1]) * 8192)[:-1], "refused 19 0")):
+            self.assertEqual(second.statement_lines(file), [expected])
+        self.assertEqual(second.statement_lines(usage([1]) * 8192),
+                         ["1 8192", "total 8192"])
+        self.assertEqual(second.statement_lines(usage(range(512)) * 16),
+                         ["%d 16" % i for i in range(512)] + ["total 8192"])
+
     def test_numbered_refusals(self):
         second.NUMBERED_REFUSALS = True
         try:
@@ -1751,6 +1921,7 @@ class Programs(Base):
         for arguments in ([], ["list"], ["listing", "x"], ["ask"],
                           ["ask", "a"], ["ask", "a", "b", "c", "d"],
                           ["orient", "a", "b", "c"], ["alone", "a"],
+                          ["statement", "x"],
                           ["ask", "/nonexistent/a", "/nonexistent/b"]):
             code, out, error = self.run_program(*arguments)
             self.assertNotEqual(code, 0)
