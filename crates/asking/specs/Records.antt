@@ -1,8 +1,10 @@
 -- The records of a questions file, and the numbers of a matrix file.
-use Prim.Native.Nat.{ℕ, _+_, _*_}
+use Prim.Native.Nat.{ℕ, _+_, _*_, _/_}
 use mathlib.Core.List.{List}
 use Rattle.bits.specs.Bytes.{le32, signed32, doubleAt}
 use Rattle.frame.specs.Frame.{Matrix, matrix}
+use Rattle.opening.specs.declared.Plan.{Plan}
+use Rattle.opening.specs.declared.Plan.the-variants.{Fill, Refuse}
 use Rattle.records.specs.declared.Mark.{Mark}
 use Rattle.spk.specs.declared.Question.{Question}
 
@@ -18,6 +20,11 @@ unfoldable pub questionAt : List ℕ → ℕ → Question
 questionAt s i =
     let p = 18 * i in
     record { target = signed32 (le32 s (p + 2)); center = signed32 (le32 s (p + 6)); et = doubleAt s (p + 10) }
+
+-- How many questions are answered: all of the file, or none where the plan refuses.
+abbrev pub answeredOf : Plan → ℕ → ℕ
+answeredOf (Fill n c) bytes = bytes / 18
+answeredOf (Refuse r) bytes = 0
 
 -- Nine doubles, row by row.
 unfoldable pub rowsOf : List ℕ → Matrix

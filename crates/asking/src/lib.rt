@@ -1,19 +1,22 @@
 // A file of questions put to an SPK kernel: its records, and a line for each answer.
 ghost use mathlib.Core.Path.{_≡_};
-ghost use Prim.Native.Nat.{_+_, _*_, _≤_};
+ghost use Prim.Native.Nat.{_+_, _*_, _≤_, _<_};
 ghost use lib.ListN.{length};
 ghost use Rattle.daf.specs.declared.Family.the-variants.{Spk};
 ghost use Rattle.lines.specs.Written.{Written};
-ghost use Rattle.inquiry.specs.Order.{openedFor};
-ghost use Rattle.asking.specs.Records.{questionSize, questionMark, questionAt, rowsOf};
+ghost use Rattle.table.specs.Places.{lentLimit};
+ghost use Rattle.inquiry.specs.Order.{planFor, openedFor};
+ghost use Rattle.asking.specs.Records.{questionSize, questionMark, questionAt, answeredOf, rowsOf};
 ghost use Rattle.asking.specs.Lines.{wordLine, namedLine, answerText};
 use daf::Family;
 use frame::NaifFrame;
 use frame::State;
 use opening::Opened;
-use opening::Outcome;
+use opening::Plan;
 use records::Mark;
+use segment::Segment;
 use spk::Answer;
+use spk::Asked;
 use spk::Memory;
 use spk::Question;
 use spk::Wanted;
@@ -68,7 +71,14 @@ pub fn rows(matrix: &[u8]) -> [[f64; 3]; 3]
     ]
 }
 
-// A kernel opened for a file of questions: 18, then the opening's refusals, then 19, or its table.
+// The plan for a file of questions: 18, then the opening's refusals, then 19, or what is to be filled into the places that are lent.
+pub fn plan(kernel: &[u8], asked: &[u8]) -> Plan
+    ensures { λ r. ⌜ r ≡ planFor Spk lentLimit questionSize questionMark (now (kernel .entry)) (now (asked .entry)) ⌝ }
+{
+    inquiry::plan(kernel, Family::Spk, asked, SIZE, MARK, Table::LENT)
+}
+
+// The same with the table by value.
 pub fn open(kernel: &[u8], asked: &[u8]) -> Opened
     ensures { λ r. ⌜ r ≡ openedFor Spk questionSize questionMark (now (kernel .entry)) (now (asked .entry)) ⌝ }
 {
@@ -122,44 +132,84 @@ pub fn write_answer(i: usize, answer: Answer) -> bool {
     streams::write(&line, n)
 }
 
-// Writes a line for each question. The memory goes from question to question.
-fn write_answers(kernel: &[u8], table: Table, asked: &[u8], wanted: Wanted, rot: [[f64; 3]; 3]) {
-    let n = asked.len() / SIZE;
+// Writes the line of answer i of m, and gives the number of the next: none is left once a line can't be written.
+fn write_next(i: usize, m: usize, r: Asked) -> usize
+    requires { ⌜ i < m ⌝ }
+    ensures { λ j. ⌜ (i < j) × (j ≤ m) ⌝ }
+{
+    let answer = r.answer;
+    if write_answer(i, answer) { i + 1 } else { m }
+}
+
+// What is remembered after an answer.
+fn kept_in(r: Asked) -> Memory
+    ensures { λ m. ⌜ m ≡ r .memory ⌝ }
+{
+    r.memory
+}
+
+// Writes a line for each of the first m questions, over the first n of the lent segments. The memory goes from question to question.
+pub fn write_answers(
+    kernel: &[u8],
+    table: &[Segment],
+    asked: &[u8],
+    n: usize,
+    m: usize,
+    wanted: Wanted,
+    rot: [[f64; 3]; 3],
+)
+    requires { ⌜ 18 * m ≤ length (now asked) ⌝ }
+{
     let mut memory = Memory::Blank;
     let mut i: usize = 0;
-    while i < n {
+    while i < m {
         let q = question_at(asked, i);
-        let r = spk::state_in(kernel, table, memory, q, wanted, rot);
-        memory = r.memory;
-        if !write_answer(i, r.answer) {
-            return;
-        }
-        i += 1;
+        let r = lent::state_in(kernel, table, n, memory, q, wanted, rot);
+        memory = kept_in(r);
+        let next = write_next(i, m, r);
+        i = next;
     }
 }
 
-// Writes what an opening comes to: its refusal, or a line for each question put to the kernel. With a matrix of 72 bytes each state is asked in
-// ECLIPJ2000. No contract can speak of what is written.
-pub fn tell(kernel: &[u8], opened: Opened, asked: &[u8], matrix: &[u8]) {
-    let outcome = opened.outcome;
-    let table = opened.table;
-    match outcome {
-        Outcome::Refused(refusal) => {
+fn family() -> Family
+    ensures { λ r. ⌜ r ≡ Spk ⌝ }
+{
+    Family::Spk
+}
+
+// How many questions are answered: all of the file, or none where the plan refuses; the refusal is then written.
+pub fn answered(asked: &[u8], p: Plan) -> usize
+    ensures { λ r. ⌜ (18 * r ≤ length (now (asked .entry))) × (r ≡ answeredOf p (length (now (asked .entry)))) ⌝ }
+{
+    match p {
+        Plan::Fill(_, _) => asked.len() / SIZE,
+        Plan::Refuse(refusal) => {
             streams::write_refusal(refusal);
-        }
-        Outcome::Accepted => {
-            if matrix.len() == MATRIX {
-                let to = Wanted::In(NaifFrame::EclipJ2000);
-                write_answers(kernel, table, asked, to, rows(matrix));
-            } else {
-                let none = [[0.0; 3]; 3];
-                write_answers(kernel, table, asked, Wanted::AsItStands, none);
-            }
+            0
         }
     }
 }
 
-// Writes what a kernel replies to a file of questions: a refusal, or a line each. No contract can speak of what is written.
+// Writes what a kernel replies to a file of questions, with a table of 4,096 places that it lends.
+fn reply_in(kernel: &[u8], asked: &[u8], wanted: Wanted, rot: [[f64; 3]; 3]) {
+    let f = family();
+    let e = table::no_segment();
+    let mut t = [e; Table::LENT];
+    let p = plan(kernel, asked);
+    lent::carry_out(&mut t, kernel, f, p);
+    let n = opening::count_in(p);
+    let m = answered(asked, p);
+    write_answers(kernel, &t, asked, n, m, wanted, rot);
+}
+
+// Writes what a kernel replies to a file of questions: a refusal, or a line each. With a matrix of 72 bytes each state is asked in ECLIPJ2000. No
+// contract can speak of what is written.
 pub fn reply(kernel: &[u8], asked: &[u8], matrix: &[u8]) {
-    tell(kernel, open(kernel, asked), asked, matrix);
+    if matrix.len() == MATRIX {
+        let to = Wanted::In(NaifFrame::EclipJ2000);
+        reply_in(kernel, asked, to, rows(matrix));
+    } else {
+        let none = [[0.0; 3]; 3];
+        reply_in(kernel, asked, Wanted::AsItStands, none);
+    }
 }

@@ -1,13 +1,16 @@
 // cases FILE..: replays cases, and writes of each what `ask` or `orient` writes. A file is a run of blocks: four words (0 asked as it stands, 1 asked
 // in ECLIPJ2000, 2 a PCK kernel, 3 segments by their numbers; the lengths of the kernel that the table is made from, none if it is the kernel itself,
 // of the kernel and of the questions), 72 bytes of matrix if turned, and the three parts. tests/oracle/stored.py makes the stored files and their
-// lines, which are the given Rust's.
+// lines, which are the given Rust's. It stands for a small host: the table goes by value, 256 places.
 ghost use Prim.Native.Nat.{_+_, _≤_};
 ghost use lib.ListN.{length};
 use daf::Family;
+use frame::NaifFrame;
 use opening::Opened;
 use opening::Outcome;
 use records::Mark;
+use spk::Memory;
+use spk::Wanted;
 use streams::Input;
 use table::Table;
 
@@ -26,6 +29,67 @@ fn matrix_len(kind: u32) -> usize
     if kind == 1 { asking::MATRIX } else { 0 }
 }
 
+// Writes a line for each question to an SPK. The memory goes from question to question.
+fn write_answers(kernel: &[u8], table: Table, asked: &[u8], wanted: Wanted, rot: [[f64; 3]; 3]) {
+    let n = asked.len() / 18;
+    let mut memory = Memory::Blank;
+    let mut i: usize = 0;
+    while i < n {
+        let q = asking::question_at(asked, i);
+        let r = owned::state_in(kernel, table, memory, q, wanted, rot);
+        memory = r.memory;
+        if !asking::write_answer(i, r.answer) {
+            return;
+        }
+        i += 1;
+    }
+}
+
+// Questions to an SPK: the refusal of the opening, or a line each. With a matrix of 72 bytes each state is asked in ECLIPJ2000.
+fn tell_states(kernel: &[u8], opened: Opened, asked: &[u8], matrix: &[u8]) {
+    let outcome = opened.outcome;
+    let table = opened.table;
+    match outcome {
+        Outcome::Refused(refusal) => {
+            streams::write_refusal(refusal);
+        }
+        Outcome::Accepted => {
+            if matrix.len() == asking::MATRIX {
+                let to = Wanted::In(NaifFrame::EclipJ2000);
+                write_answers(kernel, table, asked, to, asking::rows(matrix));
+            } else {
+                let none = [[0.0; 3]; 3];
+                write_answers(kernel, table, asked, Wanted::AsItStands, none);
+            }
+        }
+    }
+}
+
+// Writes a line for each question to a PCK.
+fn write_oriented(kernel: &[u8], table: Table, asked: &[u8]) {
+    let n = asked.len() / 14;
+    let mut i: usize = 0;
+    while i < n {
+        let q = orienting::question_at(asked, i);
+        if !orienting::write_oriented(i, owned::orient(kernel, table, q)) {
+            return;
+        }
+        i += 1;
+    }
+}
+
+// Questions to a PCK: the refusal of the opening, or a line each.
+fn tell_oriented(kernel: &[u8], opened: Opened, asked: &[u8]) {
+    let outcome = opened.outcome;
+    let table = opened.table;
+    match outcome {
+        Outcome::Refused(refusal) => {
+            streams::write_refusal(refusal);
+        }
+        Outcome::Accepted => write_oriented(kernel, table, asked),
+    }
+}
+
 // Writes a line for each segment asked by its number.
 fn write_each(kernel: &[u8], table: Table, asked: &[u8]) {
     let n = asked.len() / SIZE;
@@ -34,7 +98,7 @@ fn write_each(kernel: &[u8], table: Table, asked: &[u8]) {
         let p = SIZE * i;
         let number = bits::le_u32(asked, p + 2);
         let et = bits::double_at(asked, p + 6);
-        if !asking::write_answer(i, spk::alone(kernel, table, number as usize, et)) {
+        if !asking::write_answer(i, owned::alone(kernel, table, number as usize, et)) {
             return;
         }
         i += 1;
@@ -56,9 +120,9 @@ fn tell_alone(kernel: &[u8], opened: Opened, asked: &[u8]) {
 // Puts the questions to a kernel with the table of `origin`.
 fn tell(kind: u32, matrix: &[u8], origin: &[u8], kernel: &[u8], asked: &[u8]) {
     match kind {
-        0 => asking::tell(kernel, asking::open(origin, asked), asked, matrix),
-        1 => asking::tell(kernel, asking::open(origin, asked), asked, matrix),
-        2 => orienting::tell(kernel, orienting::open(origin, asked), asked),
+        0 => tell_states(kernel, asking::open(origin, asked), asked, matrix),
+        1 => tell_states(kernel, asking::open(origin, asked), asked, matrix),
+        2 => tell_oriented(kernel, orienting::open(origin, asked), asked),
         3 => tell_alone(
             kernel,
             inquiry::open(origin, Family::Spk, asked, SIZE, MARK),

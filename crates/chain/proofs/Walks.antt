@@ -1,9 +1,8 @@
 -- Laws of the walk: of `advance`, one for each way through the code, and of `walkFrom`, its end and a step. Assumes nothing.
-use mathlib.Core.Path.{_≡_, ap, _∙_}
+use mathlib.Core.Path.{_≡_, refl, sym, ap, _∙_}
 use mathlib.Core.Bool.{Bool, true, false, cond}
 use mathlib.Core.List.{List}
-use Prim.Native.Nat.{ℕ, suc}
-use Rattle.frame.specs.declared.State.{State}
+use Prim.Native.Nat.{ℕ, suc, zero}
 use Rattle.segment.specs.declared.Segment.{Segment}
 use Rattle.segment.specs.declared.Evaluated.the-variants as evaluation
 use Rattle.chain.specs.declared.Leg.{Leg}
@@ -14,6 +13,9 @@ use Rattle.chain.specs.declared.Next.{Next}
 use Rattle.chain.specs.declared.Next.the-variants.{Ended, Onward}
 use Rattle.chain.specs.Step.{Evaluation, stepFrom}
 use Rattle.chain.specs.Walk.{chainLimit, noCoverage, onward, returns, advance, follow, walkFrom, isHome, toZero}
+use Rattle.chain.specs.Steps.{endOf, begin}
+use Rattle.bits.proofs.Tests.{by-test}
+use Rattle.segment.specs.declared.Evaluated.{Evaluated}
 
 -- two legs are equal by their fields
 pub leg-eq : (a b : Leg) → a .start ≡ b .start → a .body ≡ b .body → a .et ≡ b .et → a .total ≡ b .total → a ≡ b
@@ -45,3 +47,26 @@ module _ (ev : Evaluation) (segs : List Segment) (n : ℕ) (leg : Leg) where
   pub zero-walk : isHome leg ≡ false → toZero ev segs n leg ≡ walkFrom ev segs n leg chainLimit
   unfolding toZero
   zero-walk e = ap (λ (b : Bool). cond b (evaluation.State (leg .total)) (walkFrom ev segs n leg chainLimit)) e
+
+-- ---- a walk from where it stands
+module _ (ev : Evaluation) (segs : List Segment) (n : ℕ) where
+  abbrev pub ahead : ℕ → Next → Evaluated
+  ahead left at = follow (λ (on : Leg). walkFrom ev segs n on left) at
+
+  -- no step is left
+  pub ahead-end : (leg : Leg) → endOf (Onward leg) ≡ ahead zero (Onward leg)
+  ahead-end leg = sym (walk-end ev segs n leg zero refl)
+
+  -- a step
+  pub ahead-step : (leg : Leg) (m : ℕ) → ahead m (advance leg (stepFrom ev segs n leg)) ≡ ahead (suc m) (Onward leg)
+  ahead-step leg m = sym (walk-step ev segs n leg (suc m) m (advance leg (stepFrom ev segs n leg)) refl refl)
+
+  pub begin-told : (leg : Leg) → ahead chainLimit (begin leg) ≡ toZero ev segs n leg
+  unfolding begin
+  begin-told leg = by-test (isHome leg)
+      (λ e. ap (λ (b : Bool). ahead chainLimit (cond b (Ended (evaluation.State (leg .total))) (Onward leg))) e ∙ sym (zero-home ev segs n leg e))
+      (λ e. ap (λ (b : Bool). ahead chainLimit (cond b (Ended (evaluation.State (leg .total))) (Onward leg))) e ∙ sym (zero-walk ev segs n leg e))
+
+pub begin-at : (leg x : Leg) (b : Bool) → leg ≡ x → isHome leg ≡ b → cond b (Ended (evaluation.State (leg .total))) (Onward leg) ≡ begin x
+unfolding begin
+begin-at leg x b e h = ap (λ (y : Bool). cond y (Ended (evaluation.State (leg .total))) (Onward leg)) (sym h) ∙ ap begin e

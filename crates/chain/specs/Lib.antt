@@ -3,3 +3,4 @@ pub mod Step
 pub mod Walk
 pub mod When
 pub mod Touched
+pub mod Steps

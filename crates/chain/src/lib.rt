@@ -1,17 +1,17 @@
-// The walk towards body 0 that a chained answer takes: `state_wrt_ssb` and `step_toward_ssb` of the Rust.
+// The walk towards body 0 that a chained answer takes, as `state_wrt_ssb` and `step_toward_ssb` of the Rust: what one step and one walk go by.
 ghost use mathlib.Core.Path.{_≡_};
-ghost use Prim.Native.Nat.{_≤_, _<_};
+ghost use Prim.Native.Nat.{_<_};
 ghost use Rattle.daf.specs.declared.Family.the-variants.{Spk};
 ghost use Rattle.segment.specs.Evaluating.{evaluated};
-ghost use Rattle.table.specs.Places.{tableLimit};
-ghost use Rattle.chain.specs.Step.{leaves, goesHome, met, look, placeAfter, stepFrom};
-ghost use Rattle.chain.specs.Walk.{noCoverage, onward, returns, advance, walkFrom, isHome, toZero};
+ghost use Rattle.table.specs.Places.{lentLimit};
+ghost use Rattle.chain.specs.Step.{leaves, goesHome, met, look, placeAfter};
+ghost use Rattle.chain.specs.Walk.{noCoverage, onward, returns, advance, isHome};
+ghost use Rattle.chain.specs.Steps.{isOver, endOf, legOf};
 use daf::Family;
 use frame::State;
 use refusal::Refusal;
 use segment::Evaluated;
 use segment::Segment;
-use table::Table;
 
 // Where a walk is: the body that it started from, the current one, the epoch, and the sum so far.
 pub struct Leg {
@@ -80,7 +80,7 @@ impl Step {
     }
 
     // The place that the scan looks at next, of n: past them all once it has ended.
-    fn place_after(self, i: usize, n: usize) -> usize
+    pub fn place_after(self, i: usize, n: usize) -> usize
         requires { ⌜ i < n ⌝ }
         ensures { λ r. ⌜ r ≡ placeAfter self i n ⌝ }
     {
@@ -94,8 +94,8 @@ impl Step {
 }
 
 // The scan with segment i: passed over, or evaluated.
-fn look(kernel: &[u8], leg: Leg, kept: Step, s: Segment, i: usize) -> Step
-    requires { ⌜ i < tableLimit ⌝ }
+pub fn look(kernel: &[u8], leg: Leg, kept: Step, s: Segment, i: usize) -> Step
+    requires { ⌜ i < lentLimit ⌝ }
     ensures { λ r. ⌜ r ≡ look (evaluated Spk (now (kernel .entry))) leg kept s i ⌝ }
 {
     if !leaves(s, leg) {
@@ -106,22 +106,6 @@ fn look(kernel: &[u8], leg: Leg, kept: Step, s: Segment, i: usize) -> Step
         Evaluated::Refused(r) => Step::Refused(r),
         Evaluated::State(x) => kept.met(s, x),
     }
-}
-
-// One step towards body 0: the scan of the table in file order.
-fn step_toward_ssb(kernel: &[u8], table: Table, leg: Leg) -> Step
-    requires { ⌜ table .count ≤ tableLimit ⌝ }
-    ensures { λ r. ⌜ r ≡ stepFrom (evaluated Spk (now (kernel .entry))) (table .segments) (table .count) leg ⌝ }
-{
-    let n = table.count;
-    let mut kept = Step::Blocked;
-    let mut i = 0;
-    while i < n {
-        let s = table.segments[i];
-        kept = look(kernel, leg, kept, s, i);
-        i = kept.place_after(i, n);
-    }
-    kept
 }
 
 // The walk ends with refusal 11 for the current body, which no segment leaves.
@@ -159,7 +143,7 @@ fn returns(leg: Leg, hop: Hop) -> bool
 }
 
 // What a step leads to.
-fn advance(leg: Leg, step: Step) -> Next
+pub fn advance(leg: Leg, step: Step) -> Next
     ensures { λ r. ⌜ r ≡ advance leg step ⌝ }
 {
     match step {
@@ -175,45 +159,46 @@ fn advance(leg: Leg, step: Step) -> Next
     }
 }
 
-// A step from a leg on.
-fn next_leg(kernel: &[u8], table: Table, leg: Leg) -> Next
-    requires { ⌜ table .count ≤ tableLimit ⌝ }
-    ensures { λ r. ⌜ r ≡ advance leg (stepFrom (evaluated Spk (now (kernel .entry))) (table .segments) (table .count) leg) ⌝ }
-{
-    advance(leg, step_toward_ssb(kernel, table, leg))
-}
-
-// A walk of at most `left` steps, by recursion over the current body. One call does the step, since the proof of a recursion names
-// every callee at every need.
-fn walk(kernel: &[u8], table: Table, leg: Leg, left: u32) -> Evaluated
-    requires { ⌜ table .count ≤ tableLimit ⌝ }
-    ensures { λ r. ⌜ r ≡ walkFrom (evaluated Spk (now (kernel .entry))) (table .segments) (table .count) leg left ⌝ }
-{
-    if left == 0 {
-        return no_way(leg);
-    }
-    let next = next_leg(kernel, table, leg);
-    match next {
-        Next::Ended(e) => e,
-        Next::Onward(on) => walk(kernel, table, on, left - 1),
-    }
-}
-
 // The leg's body is body 0.
-fn is_home(leg: Leg) -> bool
+pub fn is_home(leg: Leg) -> bool
     ensures { λ r. ⌜ r ≡ isHome leg ⌝ }
 {
     leg.body == 0
 }
 
-// The state of a leg's body about body 0, which itself takes no step.
-pub fn state_wrt_ssb(kernel: &[u8], table: Table, leg: Leg) -> Evaluated
-    requires { ⌜ table .count ≤ tableLimit ⌝ }
-    ensures { λ r. ⌜ r ≡ toZero (evaluated Spk (now (kernel .entry))) (table .segments) (table .count) leg ⌝ }
+// ---- what a walk goes by
+
+// The walk has ended, or no step is left.
+pub fn is_over(at: Next, left: u32) -> bool
+    ensures { λ r. ⌜ r ≡ isOver at left ⌝ }
 {
-    if is_home(leg) {
-        let total = leg.total;
-        return Evaluated::State(total);
+    match at {
+        Next::Ended(_) => true,
+        Next::Onward(_) => left == 0,
     }
-    walk(kernel, table, leg, Leg::STEPS)
+}
+
+// What a walk that is over comes to.
+pub fn end_of(at: Next) -> Evaluated
+    ensures { λ r. ⌜ r ≡ endOf at ⌝ }
+{
+    match at {
+        Next::Ended(e) => e,
+        Next::Onward(leg) => no_way(leg),
+    }
+}
+
+// The leg that a walk goes on with.
+pub fn leg_of(at: Next) -> Leg
+    ensures { λ r. ⌜ r ≡ legOf at ⌝ }
+{
+    match at {
+        Next::Ended(_) => Leg {
+            start: 0,
+            body: 0,
+            et: 0.0,
+            total: State::zero(),
+        },
+        Next::Onward(leg) => leg,
+    }
 }

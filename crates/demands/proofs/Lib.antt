@@ -1,4 +1,4 @@
 -- The proofs of the demands.
-pub mod Memory3
-pub mod Fits
+pub mod ByValue
+pub mod Lent
 pub mod Statements

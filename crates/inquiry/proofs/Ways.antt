@@ -1,88 +1,73 @@
 -- Laws of the order of the refusals, one for each way through the code: 18, the opening's, 19. Assumes nothing.
-use mathlib.Core.Path.{_≡_, refl, sym, ap, _∙_}
+use mathlib.Core.Path.{_≡_, sym, ap, _∙_}
 use mathlib.Core.Bool.{Bool, true, false, not, cond}
-use mathlib.Core.List.{List, [], _∷_, _++_}
-use Prim.Native.Nat.{ℕ}
-use native.Mathlib.Omega.{arith}
+use mathlib.Core.List.{List, _++_}
+use Prim.Native.Nat.{ℕ, _≤_}
+use lib.ListN.{length}
 use Rattle.refusal.specs.declared.Refusal.{Refusal}
 use Rattle.refusal.specs.declared.Refusal.the-variants.{InputTooLong, BadRecord}
-use Rattle.refusal.specs.Order.{Case, firstOf}
-use Rattle.refusal.proofs.Exactly.{first-append}
+use Rattle.refusal.specs.Order.{None, firstOf}
+use Rattle.refusal.proofs.Exactly.{first-append, first-through}
 use Rattle.daf.specs.declared.Family.{Family}
-use Rattle.opening.specs.declared.Opened.{Opened}
-use Rattle.opening.specs.declared.Outcome.{Outcome}
-use Rattle.opening.specs.declared.Outcome.the-variants.{Accepted, Refused}
-use Rattle.opening.specs.Opening.{openCases, refusedOpening, acceptedOpening, markedFor, tableOf, segmentsOf, opened}
+use Rattle.daf.specs.declared.Cursor.{Cursor}
+use Rattle.table.specs.Places.{tableLimit, emptyPlaces}
+use Rattle.opening.specs.declared.Plan.{Plan}
+use Rattle.opening.specs.declared.Plan.the-variants.{Fill, Refuse}
+use Rattle.opening.specs.Opening.{placesOf, openCases}
+use Rattle.opening.specs.Planning.{startOf, planOf, Fits, carriedOut}
+use Rattle.opening.proofs.Planned.{none-both, plan-fits}
+use Rattle.owned.specs.Owned.{openedBy}
+use Rattle.owned.proofs.Owning.{opened-of}
 use Rattle.records.specs.declared.Mark.{Mark}
 use Rattle.records.specs.Records.{recordsFit}
-use Rattle.inquiry.specs.Order.{tooLong, recordCases, openedFor}
+use Rattle.inquiry.specs.Order.{tooLong, recordCases, fileCases, planFor, openedFor}
 
--- two outcomes are not one
-apart : (r : Refusal) → Accepted ≡ Refused r → ⊥
-apart r e = let z : _≡_ {A = ℕ} 0 1 = cc in omega arith
-
-module _ (a y : Opened) (accepted : a .outcome ≡ Accepted) where
-  -- a refusal among the cases is given whatever the answer is
-  kept : (cs : List Case) (r : Refusal) → firstOf cs refusedOpening a .outcome ≡ Refused r → firstOf cs refusedOpening y ≡ firstOf cs refusedOpening a
-  kept [] r e = absurd (apart r (sym accepted ∙ e))
-  kept (c ∷ cs) r e = step (c .holds) e (kept cs r)
-    where
-      step : (b : Bool) → cond b (refusedOpening (c .gives)) (firstOf cs refusedOpening a) .outcome ≡ Refused r
-          → (firstOf cs refusedOpening a .outcome ≡ Refused r → firstOf cs refusedOpening y ≡ firstOf cs refusedOpening a)
-          → cond b (refusedOpening (c .gives)) (firstOf cs refusedOpening y) ≡ cond b (refusedOpening (c .gives)) (firstOf cs refusedOpening a)
-      step true e rest = refl
-      step false e rest = rest e
-
-  -- where there is none, there is the answer
-  passed : (cs : List Case) → firstOf cs refusedOpening a .outcome ≡ Accepted → firstOf cs refusedOpening y ≡ y
-  passed [] e = refl
-  passed (c ∷ cs) e = step (c .holds) e (passed cs)
-    where
-      step : (b : Bool) → cond b (refusedOpening (c .gives)) (firstOf cs refusedOpening a) .outcome ≡ Accepted
-          → (firstOf cs refusedOpening a .outcome ≡ Accepted → firstOf cs refusedOpening y ≡ y)
-          → cond b (refusedOpening (c .gives)) (firstOf cs refusedOpening y) ≡ y
-      step true e rest = absurd (apart (c .gives) (sym e))
-      step false e rest = rest e
-
-module _ (f : Family) (size : ℕ) (mark : Mark) (kernel file : List ℕ) where
-  -- the kernel's table, where nothing is refused
-  abbrev answer : Opened
-  answer = acceptedOpening (markedFor f (tableOf (segmentsOf f kernel)))
-
-  -- behind the opening's refusals
-  abbrev rest : Opened
-  rest = firstOf (recordCases size mark file) refusedOpening answer
+module _ (f : Family) (limit size : ℕ) (mark : Mark) (kernel file : List ℕ) where
+  -- what follows the opening's own plan
+  after : Plan → Plan
+  after (Refuse r) = Refuse r
+  after (Fill n c) = cond (not (recordsFit size mark file)) (Refuse BadRecord) (Fill n c)
 
   -- 18
-  pub too-long : tooLong kernel file ≡ true → openedFor f size mark kernel file ≡ refusedOpening InputTooLong
-  unfolding openedFor
-  too-long h = ap (λ (b : Bool). cond b (refusedOpening InputTooLong) (firstOf (openCases f kernel ++ recordCases size mark file) refusedOpening answer)) h
+  pub too-long : tooLong kernel file ≡ true → Refuse InputTooLong ≡ planFor f limit size mark kernel file
+  unfolding planFor
+  too-long h = sym (ap (λ (b : Bool). cond b (Refuse InputTooLong) (firstOf (openCases f limit kernel ++ recordCases size mark file) Refuse (Fill (length (placesOf kernel)) (startOf kernel)))) h)
 
   module _ (short : tooLong kernel file ≡ false) where
-    split : openedFor f size mark kernel file ≡ firstOf (openCases f kernel) refusedOpening rest
-    unfolding openedFor
-    split =
-        ap (λ (b : Bool). cond b (refusedOpening InputTooLong) (firstOf (openCases f kernel ++ recordCases size mark file) refusedOpening answer)) short
-        ∙ first-append (openCases f kernel) (recordCases size mark file) refusedOpening answer
+    by-plan : planFor f limit size mark kernel file ≡ after (planOf f limit kernel)
+    unfolding planFor planOf after
+    by-plan =
+        ap (λ (b : Bool). cond b (Refuse InputTooLong) (firstOf (openCases f limit kernel ++ recordCases size mark file) Refuse (Fill (length (placesOf kernel)) (startOf kernel)))) short
+        ∙ first-append (openCases f limit kernel) (recordCases size mark file) Refuse (Fill (length (placesOf kernel)) (startOf kernel))
+        ∙ first-through (openCases f limit kernel) Refuse (Fill (length (placesOf kernel)) (startOf kernel)) after
 
-    -- a refusal of the opening
-    pub refused-too : (r : Refusal) → opened f kernel .outcome ≡ Refused r → openedFor f size mark kernel file ≡ opened f kernel
-    unfolding opened
-    refused-too r e = split ∙ kept answer rest refl (openCases f kernel) r e
-
-    module _ (accepted : opened f kernel .outcome ≡ Accepted) where
-      to-rest : openedFor f size mark kernel file ≡ rest
-      unfolding opened
-      to-rest = split ∙ passed answer rest refl (openCases f kernel) accepted
-
-      to-answer : opened f kernel ≡ answer
-      unfolding opened
-      to-answer = passed answer answer refl (openCases f kernel) accepted
+    module _ (p : Plan) (is : p ≡ planOf f limit kernel) where
+      -- a refusal of the opening
+      pub refused-too : (r : Refusal) → p ≡ Refuse r → Refuse r ≡ planFor f limit size mark kernel file
+      unfolding after
+      refused-too r e = sym (by-plan ∙ ap after (sym is ∙ e))
 
       -- 19
-      pub bad-record : recordsFit size mark file ≡ false → openedFor f size mark kernel file ≡ refusedOpening BadRecord
-      bad-record h = to-rest ∙ ap (λ (b : Bool). cond (not b) (refusedOpening BadRecord) answer) h
+      pub bad-record : (n : ℕ) (c : Cursor) → p ≡ Fill n c → recordsFit size mark file ≡ false → Refuse BadRecord ≡ planFor f limit size mark kernel file
+      unfolding after
+      bad-record n c e h = sym (by-plan ∙ ap after (sym is ∙ e) ∙ ap (λ (b : Bool). cond (not b) (Refuse BadRecord) (Fill n c)) h)
 
-      -- the table
-      pub accepted-too : recordsFit size mark file ≡ true → openedFor f size mark kernel file ≡ opened f kernel
-      accepted-too h = to-rest ∙ ap (λ (b : Bool). cond (not b) (refusedOpening BadRecord) answer) h ∙ sym to-answer
+      -- the opening's plan
+      pub planned-too : (n : ℕ) (c : Cursor) → p ≡ Fill n c → recordsFit size mark file ≡ true → Fill n c ≡ planFor f limit size mark kernel file
+      unfolding after
+      planned-too n c e h = sym (by-plan ∙ ap after (sym is ∙ e) ∙ ap (λ (b : Bool). cond (not b) (Refuse BadRecord) (Fill n c)) h)
+
+  -- where none of these refusals holds, none of the opening's does
+  none-opening : None (fileCases f limit size mark kernel file) → None (openCases f limit kernel)
+  none-opening none = none-both (openCases f limit kernel) (recordCases size mark file) (none .1) .0
+
+  -- the plan can be carried out
+  pub plan-for-fits : (places : ℕ) → limit ≤ places → Fits places kernel (planFor f limit size mark kernel file)
+  unfolding planFor
+  plan-for-fits places le = plan-fits f limit places kernel (fileCases f limit size mark kernel file) none-opening le
+
+-- with the table by value
+pub opened-for : (f : Family) (size : ℕ) (mark : Mark) (kernel file : List ℕ) → let p = planFor f tableLimit size mark kernel file in
+    openedBy p (carriedOut f kernel p (emptyPlaces tableLimit)) ≡ openedFor f size mark kernel file
+unfolding planFor openedFor
+opened-for f size mark kernel file = opened-of f kernel (fileCases f tableLimit size mark kernel file) (none-opening f tableLimit size mark kernel file)

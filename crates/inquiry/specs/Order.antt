@@ -8,7 +8,11 @@ use Rattle.refusal.specs.declared.Refusal.the-variants.{InputTooLong, BadRecord
 use Rattle.refusal.specs.Order.{Case, case, firstOf}
 use Rattle.daf.specs.declared.Family.{Family}
 use Rattle.opening.specs.declared.Opened.{Opened}
-use Rattle.opening.specs.Opening.{openCases, refusedOpening, acceptedOpening, markedFor, tableOf, segmentsOf}
+use Rattle.table.specs.Places.{tableLimit}
+use Rattle.opening.specs.declared.Plan.{Plan}
+use Rattle.opening.specs.declared.Plan.the-variants.{Fill, Refuse}
+use Rattle.opening.specs.Opening.{placesOf, refusedOpening, acceptedOpening, markedFor, tableOf, segmentsOf, openCases}
+use Rattle.opening.specs.Planning.{startOf}
 use Rattle.records.specs.declared.Mark.{Mark}
 use Rattle.records.specs.Records.{recordsFit}
 use Rattle.streams.specs.Input.{inputLimit}
@@ -22,10 +26,14 @@ abbrev pub recordCases : ℕ → Mark → List ℕ → List Case
 recordCases size mark file = case (not (recordsFit size mark file)) BadRecord ∷ []
 
 -- 18, the opening's refusals 1 to 9, then 19.
-abbrev pub fileCases : Family → ℕ → Mark → List ℕ → List ℕ → List Case
-fileCases f size mark kernel file = case (tooLong kernel file) InputTooLong ∷ (openCases f kernel ++ recordCases size mark file)
+abbrev pub fileCases : Family → ℕ → ℕ → Mark → List ℕ → List ℕ → List Case
+fileCases f limit size mark kernel file = case (tooLong kernel file) InputTooLong ∷ (openCases f limit kernel ++ recordCases size mark file)
 
--- The first of them that holds is given; where none does, the kernel's table.
+-- The first of them that holds is given; where none does, the plan of the kernel's opening.
+unfoldable pub planFor : Family → ℕ → ℕ → Mark → List ℕ → List ℕ → Plan
+planFor f limit size mark kernel file = firstOf (fileCases f limit size mark kernel file) Refuse (Fill (length (placesOf kernel)) (startOf kernel))
+
+-- With the table by value, the kernel's table.
 unfoldable pub openedFor : Family → ℕ → Mark → List ℕ → List ℕ → Opened
 openedFor f size mark kernel file =
-    firstOf (fileCases f size mark kernel file) refusedOpening (acceptedOpening (markedFor f (tableOf (segmentsOf f kernel))))
+    firstOf (fileCases f tableLimit size mark kernel file) refusedOpening (acceptedOpening (markedFor f (tableOf (segmentsOf f kernel))))

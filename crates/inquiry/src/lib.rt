@@ -1,24 +1,14 @@
-// A kernel and a file of records that is put to it: the refusals that come before any line is written, or the kernel's table.
+// A kernel and a file of records that is put to it: the refusals that come before any line is written, or the plan of the kernel's opening.
 ghost use mathlib.Core.Path.{_≡_};
 ghost use Prim.Native.Nat.{_≤_};
-ghost use Rattle.opening.specs.Opening.{refusedOpening};
-ghost use Rattle.inquiry.specs.Order.{tooLong, openedFor};
+ghost use Rattle.table.specs.Places.{limitOf};
+ghost use Rattle.inquiry.specs.Order.{tooLong, planFor, openedFor};
 use daf::Family;
 use opening::Opened;
-use opening::Outcome;
+use opening::Plan;
 use records::Mark;
 use refusal::Refusal;
 use table::Table;
-
-// A refused opening.
-fn refused(refusal: Refusal) -> Opened
-    ensures { λ r. ⌜ r ≡ refusedOpening refusal ⌝ }
-{
-    Opened {
-        outcome: Outcome::Refused(refusal),
-        table: Table::empty(),
-    }
-}
 
 // The kernel or the file of records is over a program's limit.
 pub fn over(kernel: &[u8], file: &[u8]) -> bool
@@ -27,24 +17,39 @@ pub fn over(kernel: &[u8], file: &[u8]) -> bool
     streams::too_long(kernel.len()) || streams::too_long(file.len())
 }
 
-// A kernel opened for a file of records of so many bytes behind this mark: 18, then the opening's refusals, then 19, or its table.
+// The plan for a file of records of so many bytes behind this mark: 18, then the opening's refusals, then 19, or what is to be filled.
+pub fn plan(
+    kernel: &[u8],
+    family: Family,
+    file: &[u8],
+    size: usize,
+    mark: Mark,
+    places: usize,
+) -> Plan
+    requires { ⌜ 2 ≤ size ⌝ }
+    ensures { λ r. ⌜ r ≡ planFor family (limitOf places) size mark (now (kernel .entry)) (now (file .entry)) ⌝ }
+{
+    if over(kernel, file) {
+        return Plan::Refuse(Refusal::InputTooLong);
+    }
+    let p = opening::plan_of(kernel, family, places);
+    match p {
+        Plan::Refuse(refusal) => Plan::Refuse(refusal),
+        Plan::Fill(n, c) => {
+            if records::fit(file, size, mark) {
+                Plan::Fill(n, c)
+            } else {
+                Plan::Refuse(Refusal::BadRecord)
+            }
+        }
+    }
+}
+
+// The same with the table by value.
 pub fn open(kernel: &[u8], family: Family, file: &[u8], size: usize, mark: Mark) -> Opened
     requires { ⌜ 2 ≤ size ⌝ }
     ensures { λ r. ⌜ r ≡ openedFor family size mark (now (kernel .entry)) (now (file .entry)) ⌝ }
 {
-    if over(kernel, file) {
-        return refused(Refusal::InputTooLong);
-    }
-    let opened = opening::open(kernel, family);
-    let outcome = opened.outcome;
-    match outcome {
-        Outcome::Refused(_) => opened,
-        Outcome::Accepted => {
-            if records::fit(file, size, mark) {
-                opened
-            } else {
-                refused(Refusal::BadRecord)
-            }
-        }
-    }
+    let p = plan(kernel, family, file, size, mark, Table::PLACES);
+    owned::open_by(kernel, family, p)
 }

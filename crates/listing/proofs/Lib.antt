@@ -1,2 +1,3 @@
 -- Laws that the proofs cite.
-pub mod Few
+pub mod Calls
+pub mod Planned

@@ -1,12 +1,14 @@
 // Lists the segments of the SPK kernel on standard input: how many, then a line each; or the refusal.
 ghost use mathlib.Core.Path.{_≡_};
-ghost use Prim.Native.Nat.{_+_, _≤_};
+ghost use Prim.Native.Nat.{_+_, _≤_, _<_};
 ghost use lib.ListN.{length};
 ghost use Rattle.lines.specs.Written.{Written};
-ghost use Rattle.table.specs.Places.{tableLimit};
+ghost use Rattle.daf.specs.declared.Family.the-variants.{Spk};
+ghost use Rattle.opening.specs.Planning.{countIn};
+ghost use Rattle.listing.specs.Plan.{listPlan};
 ghost use Rattle.listing.specs.Lines.{markText, headText, spanText, segmentText, countText};
 use daf::Family;
-use opening::Outcome;
+use opening::Plan;
 use refusal::Refusal;
 use segment::Segment;
 use streams::Input;
@@ -86,40 +88,64 @@ fn write_count(count: usize) -> bool {
     streams::write(&line, n)
 }
 
-// Writes a line for each segment of a table.
-fn write_segments(table: Table)
-    requires { ⌜ table .count ≤ tableLimit ⌝ }
+// Writes the line of segment i of m, and gives the number of the next: none is left once a line can't be written.
+fn write_next(i: usize, m: usize, s: Segment) -> usize
+    requires { ⌜ i < m ⌝ }
+    ensures { λ j. ⌜ (i < j) × (j ≤ m) ⌝ }
 {
-    let n = table.count;
+    if write_segment(i, s) { i + 1 } else { m }
+}
+
+// Writes a line for each of the first m of the lent segments.
+fn write_segments(table: &[Segment], m: usize)
+    requires { ⌜ m ≤ length (now table) ⌝ }
+{
     let mut i: usize = 0;
-    while i < n {
-        let s = table.segments[i];
-        if !write_segment(i, s) {
-            return;
-        }
-        i += 1;
+    while i < m {
+        let s = lent::segment_at(table, i);
+        let next = write_next(i, m, s);
+        i = next;
     }
 }
 
-// Writes the listing of a kernel.
-fn list(kernel: &[u8]) {
+fn family() -> Family
+    ensures { λ r. ⌜ r ≡ Spk ⌝ }
+{
+    Family::Spk
+}
+
+// The plan of the listing: 18, then the opening's refusals, or what is to be filled into the places that are lent.
+fn plan(kernel: &[u8]) -> Plan
+    ensures { λ r. ⌜ r ≡ listPlan (now (kernel .entry)) ⌝ }
+{
     if streams::too_long(kernel.len()) {
-        streams::write_refusal(Refusal::InputTooLong);
-        return;
+        return Plan::Refuse(Refusal::InputTooLong);
     }
-    let opened = opening::open(kernel, Family::Spk);
-    let outcome = opened.outcome;
-    let table = opened.table;
-    match outcome {
-        Outcome::Refused(refusal) => {
+    opening::plan_of(kernel, Family::Spk, Table::LENT)
+}
+
+// How many segments are listed: all that are filled, or none where the plan refuses. The first line or the refusal is written.
+fn listed(p: Plan) -> usize
+    ensures { λ r. ⌜ r ≤ countIn p ⌝ }
+{
+    match p {
+        Plan::Fill(n, _) => { if write_count(n) { n } else { 0 } }
+        Plan::Refuse(refusal) => {
             streams::write_refusal(refusal);
-        }
-        Outcome::Accepted => {
-            if write_count(table.count) {
-                write_segments(table);
-            }
+            0
         }
     }
+}
+
+// Writes the listing of a kernel, with a table of 4,096 places that it lends.
+fn list(kernel: &[u8]) {
+    let f = family();
+    let e = table::no_segment();
+    let mut t = [e; Table::LENT];
+    let p = plan(kernel);
+    lent::carry_out(&mut t, kernel, f, p);
+    let m = listed(p);
+    write_segments(&t, m);
 }
 
 fn main() {

@@ -1,14 +1,22 @@
 // measure MODE KERNEL QUESTIONS PASSES: our side of bench/, a loop to count instructions in. Each pass takes the next question, the first
 // again after the last. MODE: `remember` lets the memory go from question to question, `forget` asks each with none; `orient` asks a PCK
-// kernel; `open` opens the kernel once a pass; `add` takes KERNEL for a usage file and adds it up once a pass; `nothing` only goes through
-// the questions. It writes the sum of the answers, so that each has to be worked out, and ends at the first refusal. No contract can speak
-// of what is written.
+// kernel; `open` opens the kernel and puts it the first question; these with a table of 4,096 places that is lent, `by-remember`, `by-forget`,
+// `by-orient` and `by-open` (which asks nothing) with the table by value; `add` takes KERNEL for a usage file and adds it up once a pass; `nothing` only goes through the questions. It
+// writes the sum of the answers, so that each has to be worked out, and ends at the first refusal. No contract can speak of what is written.
+ghost use mathlib.Core.Path.{_≡_};
 ghost use Prim.Native.Nat.{_+_, _*_, _≤_, _<_};
 ghost use lib.ListN.{length};
 ghost use Rattle.io.specs.Counts.{Counts};
+ghost use Rattle.daf.specs.declared.Family.the-variants.{Spk, Pck};
+ghost use Rattle.table.specs.Places.{lentLimit};
+ghost use Rattle.opening.specs.Planning.{planOf};
 use daf::Family;
 use frame::State;
 use opening::Outcome;
+use opening::Plan;
+use pck::Oriented;
+use segment::Segment;
+use spk::Asked;
 use spk::Memory;
 use spk::Way;
 use table::Table;
@@ -87,12 +95,12 @@ fn nothing(asked: &[u8], passes: u64) -> State {
     sum
 }
 
-// Opens the kernel.
+// Opens the kernel by value.
 fn open(kernel: &[u8], passes: u64) -> State {
     let mut sum = State::zero();
     let mut i: u64 = 0;
     while i < passes {
-        let opened = opening::open(kernel, Family::Spk);
+        let opened = owned::open(kernel, Family::Spk);
         let t = opened.table;
         let s = t.segments[0];
         sum.x = sum.x + s.last;
@@ -140,7 +148,7 @@ fn ask(kernel: &[u8], table: Table, asked: &[u8], forget: bool, passes: u64) -> 
     let mut i: u64 = 0;
     while i < passes {
         let q = spk_question(asked, at);
-        let r = spk::state(kernel, table, memory, q);
+        let r = owned::state(kernel, table, memory, q);
         let answer = r.answer;
         let way = answer.way;
         if !answered(way) {
@@ -168,7 +176,7 @@ fn orient(kernel: &[u8], table: Table, asked: &[u8], passes: u64) -> State {
     let mut i: u64 = 0;
     while i < passes {
         let q = pck_question(asked, at);
-        let r = pck::orient(kernel, table, q);
+        let r = owned::orient(kernel, table, q);
         let outcome = r.outcome;
         if !oriented(outcome) {
             return sum;
@@ -179,6 +187,227 @@ fn orient(kernel: &[u8], table: Table, asked: &[u8], passes: u64) -> State {
         i += 1;
     }
     sum
+}
+
+// ---- with a lent table
+
+// The sum so far, and what is remembered.
+struct Sums {
+    sum: State,
+    memory: Memory,
+}
+
+fn begin() -> Sums {
+    let sum = State::zero();
+    Sums {
+        sum: sum,
+        memory: Memory::Blank,
+    }
+}
+
+fn memory_in(run: Sums) -> Memory {
+    run.memory
+}
+
+fn sum_in(run: Sums) -> State {
+    run.sum
+}
+
+// Question i of m, the first again after the last.
+fn spk_asked(asked: &[u8], i: usize, m: usize) -> spk::Question
+    requires { ⌜ (0 < m) × (18 * m ≤ length (now asked)) ⌝ }
+{
+    let at = i % m;
+    if at < m {
+        return spk_question(asked, at);
+    }
+    spk_question(asked, 0)
+}
+
+fn pck_asked(asked: &[u8], i: usize, m: usize) -> pck::Question
+    requires { ⌜ (0 < m) × (14 * m ≤ length (now asked)) ⌝ }
+{
+    let at = i % m;
+    if at < m {
+        return pck_question(asked, at);
+    }
+    pck_question(asked, 0)
+}
+
+// The run with an answer more.
+fn with_answer(run: Sums, r: Asked, forget: bool) -> Sums {
+    let answer = r.answer;
+    let state = answer.state;
+    let sum = run.sum;
+    let total = sum.plus(state);
+    if forget {
+        return Sums {
+            sum: total,
+            memory: Memory::Blank,
+        };
+    }
+    let kept = r.memory;
+    Sums {
+        sum: total,
+        memory: kept,
+    }
+}
+
+fn with_angles(sum: State, r: Oriented) -> State {
+    let angles = r.angles;
+    sum.plus(angles)
+}
+
+// The pass after this one: none once a question is refused.
+fn next_pass(i: usize, passes: usize, r: Asked) -> usize
+    requires { ⌜ i < passes ⌝ }
+    ensures { λ j. ⌜ (i < j) × (j ≤ passes) ⌝ }
+{
+    let answer = r.answer;
+    let way = answer.way;
+    if answered(way) { i + 1 } else { passes }
+}
+
+fn next_oriented(i: usize, passes: usize, r: Oriented) -> usize
+    requires { ⌜ i < passes ⌝ }
+    ensures { λ j. ⌜ (i < j) × (j ≤ passes) ⌝ }
+{
+    let outcome = r.outcome;
+    if oriented(outcome) { i + 1 } else { passes }
+}
+
+// Asks an SPK.
+fn ask_lent(
+    kernel: &[u8],
+    table: &[Segment],
+    asked: &[u8],
+    n: usize,
+    p: usize,
+    forget: bool,
+    m: usize,
+) -> State
+    requires { ⌜ (0 < p) × (18 * p ≤ length (now asked)) ⌝ }
+{
+    let mut run = begin();
+    let mut i: usize = 0;
+    while i < m {
+        let q = spk_asked(asked, i, p);
+        let k = memory_in(run);
+        let r = lent::state(kernel, table, n, k, q);
+        run = with_answer(run, r, forget);
+        let next = next_pass(i, m, r);
+        i = next;
+    }
+    sum_in(run)
+}
+
+fn nothing_yet() -> State {
+    State::zero()
+}
+
+// Asks a PCK.
+fn orient_lent(
+    kernel: &[u8],
+    table: &[Segment],
+    asked: &[u8],
+    n: usize,
+    p: usize,
+    m: usize,
+) -> State
+    requires { ⌜ (0 < p) × (14 * p ≤ length (now asked)) ⌝ }
+{
+    let mut sum = nothing_yet();
+    let mut i: usize = 0;
+    while i < m {
+        let q = pck_asked(asked, i, p);
+        let r = lent::orient(kernel, table, n, q);
+        sum = with_angles(sum, r);
+        let next = next_oriented(i, m, r);
+        i = next;
+    }
+    sum
+}
+
+fn spk_family() -> Family
+    ensures { λ r. ⌜ r ≡ Spk ⌝ }
+{
+    Family::Spk
+}
+
+fn pck_family() -> Family
+    ensures { λ r. ⌜ r ≡ Pck ⌝ }
+{
+    Family::Pck
+}
+
+// The plan of the opening; a refusal is said on the error output.
+fn planned(kernel: &[u8], family: Family) -> Plan
+    ensures { λ r. ⌜ r ≡ planOf family lentLimit (now (kernel .entry)) ⌝ }
+{
+    let p = opening::plan_of(kernel, family, Table::LENT);
+    if let Plan::Refuse(_) = p {
+        streams::complain(b"measure: the kernel was refused\n");
+    }
+    p
+}
+
+// Opens an SPK into a table of 4,096 places, and asks it.
+fn lend_spk(kernel: &[u8], asked: &[u8], p: usize, forget: bool, passes: usize) -> State
+    requires { ⌜ (0 < p) × (18 * p ≤ length (now asked)) ⌝ }
+{
+    let f = spk_family();
+    let e = table::no_segment();
+    let mut t = [e; Table::LENT];
+    let y = planned(kernel, f);
+    lent::carry_out(&mut t, kernel, f, y);
+    let n = opening::count_in(y);
+    ask_lent(kernel, &t, asked, n, p, forget, passes)
+}
+
+// Opens a PCK into a table of 4,096 places, and asks it.
+fn lend_pck(kernel: &[u8], asked: &[u8], p: usize, passes: usize) -> State
+    requires { ⌜ (0 < p) × (14 * p ≤ length (now asked)) ⌝ }
+{
+    let f = pck_family();
+    let e = table::no_segment();
+    let mut t = [e; Table::LENT];
+    let y = planned(kernel, f);
+    lent::carry_out(&mut t, kernel, f, y);
+    let n = opening::count_in(y);
+    orient_lent(kernel, &t, asked, n, p, passes)
+}
+
+// Opens an SPK into a table of 4,096 places that is made anew, and puts it the first question: once a pass.
+fn open_lent(kernel: &[u8], asked: &[u8], passes: u64) -> State {
+    let p = asked.len() / 18;
+    let mut sum = State::zero();
+    if p == 0 {
+        return sum;
+    }
+    let mut i: u64 = 0;
+    while i < passes {
+        let s = lend_spk(kernel, asked, p, true, 1);
+        sum = sum.plus(s);
+        i += 1;
+    }
+    sum
+}
+
+// The passes over a kernel that is opened into a lent table.
+fn over_lent(kernel: &[u8], asked: &[u8], mode: &[u8], passes: u64) -> State {
+    let count = (passes % 1000000000) as usize;
+    if check::same(mode, b"orient") {
+        let p = asked.len() / 14;
+        if p == 0 {
+            return State::zero();
+        }
+        return lend_pck(kernel, asked, p, count);
+    }
+    let p = asked.len() / 18;
+    if p == 0 {
+        return State::zero();
+    }
+    lend_spk(kernel, asked, p, check::same(mode, b"forget"), count)
 }
 
 // The number that a text of at most nine digits writes.
@@ -205,11 +434,11 @@ fn digit(b: u8) -> u64
     (b - b'0') as u64
 }
 
-// The passes over an opened kernel.
+// The passes over a kernel that is opened by value.
 fn over(kernel: &[u8], asked: &[u8], mode: &[u8], passes: u64) -> State {
-    let pck = check::same(mode, b"orient");
+    let pck = check::same(mode, b"by-orient");
     let family = if pck { Family::Pck } else { Family::Spk };
-    let opened = opening::open(kernel, family);
+    let opened = owned::open(kernel, family);
     let outcome = opened.outcome;
     let table = opened.table;
     if let Outcome::Refused(_) = outcome {
@@ -219,7 +448,19 @@ fn over(kernel: &[u8], asked: &[u8], mode: &[u8], passes: u64) -> State {
     if pck {
         return orient(kernel, table, asked, passes);
     }
-    ask(kernel, table, asked, check::same(mode, b"forget"), passes)
+    ask(
+        kernel,
+        table,
+        asked,
+        check::same(mode, b"by-forget"),
+        passes,
+    )
+}
+
+fn by_value(mode: &[u8]) -> bool {
+    check::same(mode, b"by-remember")
+        || check::same(mode, b"by-forget")
+        || check::same(mode, b"by-orient")
 }
 
 // The passes in a mode.
@@ -228,12 +469,18 @@ fn run(kernel: &[u8], asked: &[u8], mode: &[u8], passes: u64) -> State {
         return nothing(asked, passes);
     }
     if check::same(mode, b"open") {
+        return open_lent(kernel, asked, passes);
+    }
+    if check::same(mode, b"by-open") {
         return open(kernel, passes);
     }
     if check::same(mode, b"add") {
         return add(kernel, passes);
     }
-    over(kernel, asked, mode, passes)
+    if by_value(mode) {
+        return over(kernel, asked, mode, passes);
+    }
+    over_lent(kernel, asked, mode, passes)
 }
 
 // Writes the sum.

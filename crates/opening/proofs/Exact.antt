@@ -1,19 +1,23 @@
 -- Exactly when an opening gives refusals 1 to 9, and what an accepted one says of the table. Assumes nothing.
-use Prim.Native.Nat.{ℕ, _≤_, _<_}
-use mathlib.Core.Path.{_≡_, refl, sym, ap, _∙_, subst}
-use mathlib.Core.Bool.{Bool, true, false}
+use Prim.Native.Nat.{ℕ, _<_}
+use mathlib.Core.Path.{_≡_, refl, sym, ap, _∙_}
+use mathlib.Core.Logic.{⊎-elim}
 use mathlib.Core.List.{List, [], _∷_, map}
 use native.Mathlib.Omega.{arith}
-use borrow.Author.Tests.{ltb-false}
 use lib.ListN.{length}
 use Rattle.refusal.specs.declared.Refusal.{Refusal}
 use Rattle.refusal.specs.Numbers.{numberOf}
 use Rattle.refusal.specs.Order.{Case, First, None, given}
-use Rattle.refusal.proofs.Exactly.{given-where, given-only, answered}
+use Rattle.refusal.proofs.Exactly.{given-where, given-only, answered, first-two}
 use Rattle.daf.specs.declared.Family.{Family}
 use Rattle.table.specs.declared.Table.{Table}
-use Rattle.opening.specs.Opening.{placesOf, wellFormed, segmentsOf, tableOf, markedFor, refusedOpening, acceptedOpening, openCases, opened}
-use Rattle.opening.specs.declared.Outcome.{Outcome}
+use Rattle.table.specs.Places.{tableLimit}
+use Rattle.opening.specs.Opening.{placesOf, segmentsOf, tableOf, markedFor, refusedOpening, acceptedOpening, openCases, opened}
+use Rattle.segment.specs.declared.Segment.{Segment}
+use Rattle.opening.specs.declared.Found.the-variants as found
+use Rattle.opening.specs.Lent as lent
+use Rattle.opening.specs.Lent.{filledWith, markedList, tableAfter}
+use Rattle.opening.proofs.Planned.{none-answer}
 use Rattle.opening.specs.declared.Outcome.the-variants.{Accepted, Refused}
 use Rattle.opening.specs.declared.Opened.{Opened}
 
@@ -31,22 +35,61 @@ module _ (f : Family) (k : List ℕ) where
   tableRead = markedFor f (tableOf (segmentsOf f k))
 
   -- **exactly-when**, refusals 1 to 9: case i gives its refusal where it holds and no earlier case does ..
-  pub refused-where : (i : ℕ) → First (openCases f k) i → opened f k ≡ refusedOpening (given (openCases f k) i)
+  pub refused-where : (i : ℕ) → First (openCases f tableLimit k) i → opened f k ≡ refusedOpening (given (openCases f tableLimit k) i)
   unfolding opened
-  refused-where i h = given-where refusedOpening (acceptedOpening tableRead) (openCases f k) i h
+  refused-where i h = given-where refusedOpening (acceptedOpening tableRead) (openCases f tableLimit k) i h
 
   -- .. and only there
-  pub refused-only : (i : ℕ) → i < 9 → opened f k ≡ refusedOpening (given (openCases f k) i) → First (openCases f k) i
+  pub refused-only : (i : ℕ) → i < 9 → opened f k ≡ refusedOpening (given (openCases f tableLimit k) i) → First (openCases f tableLimit k) i
   unfolding opened
-  refused-only i l e = given-only refusedOpening (acceptedOpening tableRead) one-refusal (no-refusal tableRead) (openCases f k) i tt l e
+  refused-only i l e = given-only refusedOpening (acceptedOpening tableRead) one-refusal (no-refusal tableRead) (openCases f tableLimit k) i tt l e
 
   -- the cases have the paper's numbers, in the paper's order
-  pub numbered : map (λ (c : Case). numberOf (c .gives)) (openCases f k) ≡ 1 ∷ 2 ∷ 3 ∷ 4 ∷ 5 ∷ 6 ∷ 7 ∷ 8 ∷ 9 ∷ []
+  pub numbered : map (λ (c : Case). numberOf (c .gives)) (openCases f tableLimit k) ≡ 1 ∷ 2 ∷ 3 ∷ 4 ∷ 5 ∷ 6 ∷ 7 ∷ 8 ∷ 9 ∷ []
   numbered = refl
 
   -- where an opening is accepted, no case holds and the table is the one of the definition
-  pub accepted : (t : Table) → opened f k ≡ acceptedOpening t → None (openCases f k) × (tableRead ≡ t)
+  pub accepted : (t : Table) → opened f k ≡ acceptedOpening t → None (openCases f tableLimit k) × (tableRead ≡ t)
   unfolding opened
   accepted t e =
-      let a = answered refusedOpening (acceptedOpening tableRead) one-refusal (no-refusal tableRead) (openCases f k) (acceptedOpening t) e (no-refusal t) in
+      let a = answered refusedOpening (acceptedOpening tableRead) one-refusal (no-refusal tableRead) (openCases f tableLimit k) (acceptedOpening t) e (no-refusal t) in
       (a .0, ap (λ (x : Opened). x .table) (a .1))
+
+-- ---- the same of an opening into a lent table, with any limit
+one-found : (r s : Refusal) → found.Refused r ≡ found.Refused s → r ≡ s
+one-found r s e = cc
+
+no-found : (n : ℕ) (r : Refusal) → found.Accepted n ≡ found.Refused r → ⊥
+no-found n r e = let z : _≡_ {A = ℕ} 0 1 = cc in omega arith
+
+module _ (f : Family) (limit : ℕ) (k : List ℕ) where
+  pub found-where : (i : ℕ) → First (openCases f limit k) i → lent.found f limit k ≡ found.Refused (given (openCases f limit k) i)
+  unfolding lent.found
+  found-where i h = given-where found.Refused (found.Accepted (length (placesOf k))) (openCases f limit k) i h
+
+  pub found-only : (i : ℕ) → i < 9 → lent.found f limit k ≡ found.Refused (given (openCases f limit k) i) → First (openCases f limit k) i
+  unfolding lent.found
+  found-only i l e = given-only found.Refused (found.Accepted (length (placesOf k))) one-found (no-found (length (placesOf k))) (openCases f limit k) i tt l e
+
+  pub found-numbered : map (λ (c : Case). numberOf (c .gives)) (openCases f limit k) ≡ 1 ∷ 2 ∷ 3 ∷ 4 ∷ 5 ∷ 6 ∷ 7 ∷ 8 ∷ 9 ∷ []
+  found-numbered = refl
+
+  -- where it is accepted, no case holds, the count is that of the summaries, and the table is filled and marked
+  pub found-accepted : (n : ℕ) → lent.found f limit k ≡ found.Accepted n → None (openCases f limit k) × (length (placesOf k) ≡ n)
+  unfolding lent.found
+  found-accepted n e =
+      let a = answered found.Refused (found.Accepted (length (placesOf k))) one-found (no-found (length (placesOf k))) (openCases f limit k) (found.Accepted n) e (no-found n) in
+      let q : found.Accepted (length (placesOf k)) ≡ found.Accepted n = a .1 in
+      (a .0, cc)
+
+  pub table-accepted : (segs : List Segment) → None (openCases f limit k) → tableAfter f limit k segs ≡ markedList f (length (placesOf k)) (filledWith (segmentsOf f k) segs)
+  unfolding tableAfter
+  table-accepted segs none = none-answer (openCases f limit k) (λ r. segs) (markedList f (length (placesOf k)) (filledWith (segmentsOf f k) segs)) none
+
+  -- refused: the table is as it was
+  pub table-refused : (segs : List Segment) (r : Refusal) → lent.found f limit k ≡ found.Refused r → tableAfter f limit k segs ≡ segs
+  unfolding lent.found tableAfter
+  table-refused segs r e =
+      let n = length (placesOf k) in
+      ⊎-elim (λ both. both .2) (λ both. absurd (no-found n r (sym (both .0) ∙ e)))
+      (first-two found.Refused (found.Accepted n) (λ r. segs) (markedList f n (filledWith (segmentsOf f k) segs)) (openCases f limit k))

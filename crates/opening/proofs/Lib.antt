@@ -1,3 +1,4 @@
 -- Laws of the opening.
-pub mod Reading
 pub mod Exact
+pub mod Planned
+pub mod Planning

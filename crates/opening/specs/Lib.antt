@@ -1,2 +1,4 @@
 -- What the contracts of `opening` cite.
 pub mod Opening
+pub mod Lent
+pub mod Planning

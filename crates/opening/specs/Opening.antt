@@ -1,5 +1,5 @@
 -- The opening of a kernel: refusals 1 to 9 in their order, or its table.
-use Prim.Native.Nat.{ℕ, zero, suc, _-_}
+use Prim.Native.Nat.{ℕ, suc, _-_}
 use mathlib.Core.Bool.{Bool, cond}
 use mathlib.Core.List.{List, [], _∷_, _++_, map}
 use lib.Dec.{ltb}
@@ -19,7 +19,6 @@ use Rattle.table.specs.Segments.{emptySegment}
 use Rattle.table.specs.Places.{tableLimit, emptyTable}
 use Rattle.table.specs.Marks.{marks}
 use Rattle.table.specs.declared.Table.{Table}
-use Rattle.opening.specs.declared.Outcome.{Outcome}
 use Rattle.opening.specs.declared.Outcome.the-variants.{Accepted, Refused}
 use Rattle.opening.specs.declared.Opened.{Opened}
 
@@ -66,15 +65,10 @@ acceptedOpening t = record { outcome = Accepted; table = t }
 abbrev pub segmentCases : Family → List ℕ → List Case
 segmentCases f k = case (ltb (wellFormed f k (placesOf k)) (length (placesOf k))) (Malformed (wellFormed f k (placesOf k))) ∷ []
 
--- Refusals 1 to 9, in their order.
-abbrev pub openCases : Family → List ℕ → List Case
-openCases f k = cases f tableLimit k ++ segmentCases f k
+-- Refusals 1 to 9, in their order, with the table's limit.
+abbrev pub openCases : Family → ℕ → List ℕ → List Case
+openCases f limit k = cases f limit k ++ segmentCases f k
 
--- The opening.
+-- The opening, with the table by value.
 unfoldable pub opened : Family → List ℕ → Opened
-opened f k = firstOf (openCases f k) refusedOpening (acceptedOpening (markedFor f (tableOf (segmentsOf f k))))
-
--- ---- behind refusals 1 to 8, and before the marks
-
-unfoldable pub segmentsRead : Family → List ℕ → Opened
-segmentsRead f k = firstOf (segmentCases f k) refusedOpening (acceptedOpening (tableOf (segmentsOf f k)))
+opened f k = firstOf (openCases f tableLimit k) refusedOpening (acceptedOpening (markedFor f (tableOf (segmentsOf f k))))

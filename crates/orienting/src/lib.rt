@@ -1,18 +1,20 @@
 // A file of questions put to a PCK kernel: its records, and a line for each orientation.
 ghost use mathlib.Core.Path.{_≡_};
-ghost use Prim.Native.Nat.{_+_, _*_, _≤_};
+ghost use Prim.Native.Nat.{_+_, _*_, _≤_, _<_};
 ghost use lib.ListN.{length};
 ghost use Rattle.daf.specs.declared.Family.the-variants.{Pck};
 ghost use Rattle.lines.specs.Written.{Written};
-ghost use Rattle.inquiry.specs.Order.{openedFor};
+ghost use Rattle.table.specs.Places.{lentLimit};
+ghost use Rattle.inquiry.specs.Order.{planFor, openedFor};
 ghost use Rattle.orienting.specs.Records.{questionSize, questionMark, questionAt};
 ghost use Rattle.orienting.specs.Lines.{turnedText, orientedText};
 use daf::Family;
 use opening::Opened;
-use opening::Outcome;
+use opening::Plan;
 use pck::Oriented;
 use pck::Question;
 use records::Mark;
+use segment::Segment;
 use table::Table;
 
 // A question record has 14 bytes and begins with the mark A5 5C.
@@ -35,7 +37,14 @@ pub fn question_at(asked: &[u8], i: usize) -> Question
     }
 }
 
-// A kernel opened for a file of questions: 18, then the opening's refusals, then 19, or its table.
+// The plan for a file of questions: 18, then the opening's refusals, then 19, or what is to be filled into the places that are lent.
+pub fn plan(kernel: &[u8], asked: &[u8]) -> Plan
+    ensures { λ r. ⌜ r ≡ planFor Pck lentLimit questionSize questionMark (now (kernel .entry)) (now (asked .entry)) ⌝ }
+{
+    inquiry::plan(kernel, Family::Pck, asked, SIZE, MARK, Table::LENT)
+}
+
+// The same with the table by value.
 pub fn open(kernel: &[u8], asked: &[u8]) -> Opened
     ensures { λ r. ⌜ r ≡ openedFor Pck questionSize questionMark (now (kernel .entry)) (now (asked .entry)) ⌝ }
 {
@@ -68,38 +77,61 @@ pub fn put_oriented(out: &mut [u8], i: usize, a: Oriented) -> usize
 }
 
 // Writes the line of orientation i to standard output. No contract can speak of what is written.
-fn write_oriented(i: usize, a: Oriented) -> bool {
+pub fn write_oriented(i: usize, a: Oriented) -> bool {
     let mut line = [0u8; 145];
     let n = put_oriented(&mut line, i, a);
     streams::write(&line, n)
 }
 
-// Writes a line for each question.
-fn write_all(kernel: &[u8], table: Table, asked: &[u8]) {
-    let n = asked.len() / SIZE;
+// Writes the line of orientation i of m, and gives the number of the next: none is left once a line can't be written.
+fn write_next(i: usize, m: usize, a: Oriented) -> usize
+    requires { ⌜ i < m ⌝ }
+    ensures { λ j. ⌜ (i < j) × (j ≤ m) ⌝ }
+{
+    if write_oriented(i, a) { i + 1 } else { m }
+}
+
+// Writes a line for each of the first m questions, over the first n of the lent segments.
+fn write_all(kernel: &[u8], table: &[Segment], asked: &[u8], n: usize, m: usize)
+    requires { ⌜ 14 * m ≤ length (now asked) ⌝ }
+{
     let mut i: usize = 0;
-    while i < n {
+    while i < m {
         let q = question_at(asked, i);
-        if !write_oriented(i, pck::orient(kernel, table, q)) {
-            return;
-        }
-        i += 1;
+        let a = lent::orient(kernel, table, n, q);
+        let next = write_next(i, m, a);
+        i = next;
     }
 }
 
-// Writes what an opening comes to: its refusal, or a line for each question put to the kernel. No contract can speak of what is written.
-pub fn tell(kernel: &[u8], opened: Opened, asked: &[u8]) {
-    let outcome = opened.outcome;
-    let table = opened.table;
-    match outcome {
-        Outcome::Refused(refusal) => {
+fn family() -> Family
+    ensures { λ r. ⌜ r ≡ Pck ⌝ }
+{
+    Family::Pck
+}
+
+// How many questions are answered: all of the file, or none where the plan refuses; the refusal is then written.
+fn answered(asked: &[u8], p: Plan) -> usize
+    ensures { λ r. ⌜ 14 * r ≤ length (now (asked .entry)) ⌝ }
+{
+    match p {
+        Plan::Fill(_, _) => asked.len() / SIZE,
+        Plan::Refuse(refusal) => {
             streams::write_refusal(refusal);
+            0
         }
-        Outcome::Accepted => write_all(kernel, table, asked),
     }
 }
 
-// Writes what a kernel replies to a file of questions: a refusal, or a line each. No contract can speak of what is written.
+// Writes what a kernel replies to a file of questions: a refusal, or a line each, with a table of 4,096 places that it lends. No contract can
+// speak of what is written.
 pub fn reply(kernel: &[u8], asked: &[u8]) {
-    tell(kernel, open(kernel, asked), asked);
+    let f = family();
+    let e = table::no_segment();
+    let mut t = [e; Table::LENT];
+    let p = plan(kernel, asked);
+    lent::carry_out(&mut t, kernel, f, p);
+    let n = opening::count_in(p);
+    let m = answered(asked, p);
+    write_all(kernel, &t, asked, n, m);
 }

@@ -1,3 +1,4 @@
 -- The definitions that the contracts of `pck` cite, and what is proved beyond them.
+pub mod Finding
 pub mod Orienting
 pub mod When

@@ -3,15 +3,17 @@ ghost use mathlib.Core.Path.{_≡_};
 ghost use Prim.Native.Nat.{_<_};
 ghost use Rattle.daf.specs.declared.Family.the-variants.{Pck};
 ghost use Rattle.segment.specs.Evaluating.{evaluated};
-ghost use Rattle.table.specs.Places.{tableLimit};
-ghost use Rattle.opening.specs.Opening.{opened};
-ghost use Rattle.pck.specs.Orienting.{orientedOf, refusedOriented, settled, isBody, hits, noCoverage, oriented};
+ghost use Rattle.table.specs.Places.{lentLimit, limitOf};
+ghost use Rattle.table.specs.Choosing.{orElse};
+ghost use Rattle.table.specs.Steps.{Within};
+ghost use Rattle.pck.specs.Orienting.{orientedOf, refusedOriented, settled, isBody, hits, noCoverage};
+ghost use Rattle.pck.specs.Finding.{bodyAt, bodyLooked, orientedWith};
 use daf::Family;
 use frame::State;
-use opening::Opened;
 use refusal::Refusal;
 use segment::Evaluated;
 use segment::Segment;
+use table::Choice;
 use table::Table;
 
 // The orientation of a body frame at an epoch.
@@ -92,40 +94,71 @@ impl Oriented {
     }
 }
 
-// The opening of a PCK: refusals 1 to 9, or its table.
-pub fn open(kernel: &[u8]) -> Opened
-    ensures { λ r. ⌜ r ≡ opened Pck (now (kernel .entry)) ⌝ }
-{
-    opening::open(kernel, Family::Pck)
-}
-
 // Segment i, which was chosen, answers.
 fn evaluated_at(kernel: &[u8], i: usize, s: Segment, et: f64) -> Oriented
-    requires { ⌜ i < tableLimit ⌝ }
+    requires { ⌜ i < lentLimit ⌝ }
     ensures { λ r. ⌜ r ≡ settled s (evaluated Pck (now (kernel .entry)) s i et) ⌝ }
 {
     Oriented::settled(s, segment::evaluate(kernel, Family::Pck, s, i as u32, et))
 }
 
-// The orientation of a body frame. One function takes the table: it scans from the last segment on, and the chosen one goes on by value.
-pub fn orient(kernel: &[u8], table: Table, q: Question) -> Oriented
-    ensures { λ r. ⌜ r ≡ oriented tableLimit (now (kernel .entry)) (table .segments) (table .count) q ⌝ }
+// ---- what a question goes by
+
+// What was kept, else segment i where it is of the body frame and covers the epoch.
+pub fn or_body(kept: Choice, q: Question, s: Segment, i: usize) -> Choice
+    ensures { λ r. ⌜ r ≡ orElse kept (bodyAt q s i) ⌝ }
 {
-    let n = table.count;
-    if Table::PLACES < n {
+    match kept {
+        Choice::At(k) => Choice::At(k),
+        Choice::Nothing => {
+            if q.hits(s) {
+                Choice::At(i)
+            } else {
+                Choice::Nothing
+            }
+        }
+    }
+}
+
+// How many segments are looked at: none where the question is decided before.
+pub fn body_looked(places: usize, n: usize, q: Question) -> usize
+    ensures { λ r. ⌜ r ≡ bodyLooked (limitOf places) n q ⌝ }
+{
+    if Table::LENT < n {
+        return 0;
+    }
+    if places < n {
+        return 0;
+    }
+    if q.et != q.et {
+        return 0;
+    }
+    n
+}
+
+// The answer by the tests before any segment, else by the choice c, which is s.
+pub fn turn_by(
+    kernel: &[u8],
+    places: usize,
+    n: usize,
+    q: Question,
+    c: Choice,
+    s: Segment,
+) -> Oriented
+    requires { ⌜ Within lentLimit c ⌝ }
+    ensures { λ r. ⌜ r ≡ orientedWith (limitOf places) (now (kernel .entry)) n q c s ⌝ }
+{
+    if Table::LENT < n {
+        return Oriented::refused(Refusal::TableUnfit);
+    }
+    if places < n {
         return Oriented::refused(Refusal::TableUnfit);
     }
     if q.et != q.et {
         return Oriented::refused(Refusal::EpochNan);
     }
-    let mut i = n;
-    while 0 < i {
-        let k = i - 1;
-        let s = table.segments[k];
-        if q.hits(s) {
-            return evaluated_at(kernel, k, s, q.et);
-        }
-        i = k;
+    match c {
+        Choice::At(i) => evaluated_at(kernel, i, s, q.et),
+        Choice::Nothing => Oriented::refused(q.no_coverage()),
     }
-    Oriented::refused(q.no_coverage())
 }

@@ -20,9 +20,7 @@ use Rattle.segment.specs.declared.Segment.{Segment}
 use Rattle.segment.specs.Evaluating.{cases, evaluated}
 use Rattle.segment.proofs.Refusals.{refused-by}
 use Rattle.segment.proofs.OwnBytes.{Agrees, own-bytes}
-use Rattle.table.specs.declared.Table.{Table}
 use Rattle.table.specs.declared.Choice.the-variants.{Nothing}
-use Rattle.table.specs.Places.{tableLimit}
 use Rattle.table.specs.Segments.{seg}
 use Rattle.chain.specs.Walk.{chainLimit}
 use Rattle.chain.specs.Touched.{TouchedOn}
@@ -51,49 +49,49 @@ own-only k s i et r e = let c = refused-by Spk k s i et r e in go (c .0) (c .1) 
     go (suc (suc (suc zero))) h q = ap isOwn q
     go (suc (suc (suc (suc j)))) h q = absurd (h .1 .1 .1 .1)
 
--- what a kernel is asked, with a table
-abbrev askedOf : List ℕ → Table → Memory → Question → Asked
-askedOf k t m q = asked tableLimit (evaluated Spk k) (t .segments) (t .count) m q
+-- what a kernel is asked, with a table: a list of segments, their count and the limit, by value or lent
+abbrev askedOf : List ℕ → ℕ → List Segment → ℕ → Memory → Question → Asked
+askedOf k limit segs n m q = asked limit (evaluated Spk k) segs n m q
 
 -- ---- exactly when
-module _ (k : List ℕ) (t : Table) (m : Memory) (q : Question) where
-  pub state-10 : When10 tableLimit (evaluated Spk k) (t .segments) (t .count) m q ↔ RefusedBy tableLimit (evaluated Spk k) (t .segments) (t .count) m q EpochNan
-  state-10 = exactly-10 tableLimit (evaluated Spk k) (t .segments) (t .count) m q (own-only k)
+module _ (k : List ℕ) (limit : ℕ) (segs : List Segment) (n : ℕ) (m : Memory) (q : Question) where
+  pub state-10 : When10 limit (evaluated Spk k) segs n m q ↔ RefusedBy limit (evaluated Spk k) segs n m q EpochNan
+  state-10 = exactly-10 limit (evaluated Spk k) segs n m q (own-only k)
 
-  pub state-11 : (b : ℤ) → When11 tableLimit (evaluated Spk k) (t .segments) (t .count) m q b ↔ RefusedBy tableLimit (evaluated Spk k) (t .segments) (t .count) m q (NoCoverage b)
-  state-11 = exactly-11 tableLimit (evaluated Spk k) (t .segments) (t .count) m q (own-only k)
+  pub state-11 : (b : ℤ) → When11 limit (evaluated Spk k) segs n m q b ↔ RefusedBy limit (evaluated Spk k) segs n m q (NoCoverage b)
+  state-11 = exactly-11 limit (evaluated Spk k) segs n m q (own-only k)
 
-  pub state-14 : When14 tableLimit (evaluated Spk k) (t .segments) (t .count) m q ↔ RefusedBy tableLimit (evaluated Spk k) (t .segments) (t .count) m q TableUnfit
-  state-14 = exactly-14 tableLimit (evaluated Spk k) (t .segments) (t .count) m q (own-only k)
+  pub state-14 : When14 limit (evaluated Spk k) segs n m q ↔ RefusedBy limit (evaluated Spk k) segs n m q TableUnfit
+  state-14 = exactly-14 limit (evaluated Spk k) segs n m q (own-only k)
 
-  pub state-15 : When15 tableLimit (evaluated Spk k) (t .segments) (t .count) m q ↔ RefusedBy tableLimit (evaluated Spk k) (t .segments) (t .count) m q NotFinite
-  state-15 = exactly-15 tableLimit (evaluated Spk k) (t .segments) (t .count) m q (own-only k)
+  pub state-15 : When15 limit (evaluated Spk k) segs n m q ↔ RefusedBy limit (evaluated Spk k) segs n m q NotFinite
+  state-15 = exactly-15 limit (evaluated Spk k) segs n m q (own-only k)
 
 -- ---- own bytes
 -- two kernels agree on segment i's doubles
 abbrev pub AgreesAt : List ℕ → List ℕ → List Segment → ℕ → Type 0
 AgreesAt k k' segs i = Agrees k k' (natAbs (seg segs i .start)) (natAbs (seg segs i .end))
 
-module _ (k k' : List ℕ) (long : length k ≡ length k') (t : Table) where
-  alike : (i : ℕ) → AgreesAt k k' (t .segments) i → Alike (evaluated Spk k) (evaluated Spk k') (t .segments) i
-  alike i g et = own-bytes Spk k k' (seg (t .segments) i) i et long g
+module _ (k k' : List ℕ) (long : length k ≡ length k') (limit : ℕ) (segs : List Segment) (n : ℕ) where
+  alike : (i : ℕ) → AgreesAt k k' segs i → Alike (evaluated Spk k) (evaluated Spk k') segs i
+  alike i g et = own-bytes Spk k k' (seg segs i) i et long g
 
   module _ (m : Memory) (q : Question) where
-    pub bytes-forward : (i : ℕ) → askedOf k t m q .answer .way ≡ Forward i → AgreesAt k k' (t .segments) i → askedOf k t m q ≡ askedOf k' t m q
+    pub bytes-forward : (i : ℕ) → askedOf k limit segs n m q .answer .way ≡ Forward i → AgreesAt k k' segs i → askedOf k limit segs n m q ≡ askedOf k' limit segs n m q
     bytes-forward i w g = own-forward _ _ _ _ _ _ _ i w (alike i g)
 
-    pub bytes-reversed : (i : ℕ) → askedOf k t m q .answer .way ≡ Reversed i → AgreesAt k k' (t .segments) i → askedOf k t m q ≡ askedOf k' t m q
+    pub bytes-reversed : (i : ℕ) → askedOf k limit segs n m q .answer .way ≡ Reversed i → AgreesAt k k' segs i → askedOf k limit segs n m q ≡ askedOf k' limit segs n m q
     bytes-reversed i w g = own-reversed _ _ _ _ _ _ _ i w (alike i g)
 
-    pub bytes-chained : forwardIn (t .segments) (t .count) m q ≡ Nothing → lastReversed (t .segments) (t .count) q ≡ Nothing
-        → TouchedOn (evaluated Spk k) (t .segments) (t .count) (AgreesAt k k' (t .segments)) (legFrom q) chainLimit
-        → TouchedOn (evaluated Spk k) (t .segments) (t .count) (AgreesAt k k' (t .segments)) (legFrom (swapped q)) chainLimit
-        → askedOf k t m q ≡ askedOf k' t m q
+    pub bytes-chained : forwardIn segs n m q ≡ Nothing → lastReversed segs n q ≡ Nothing
+        → TouchedOn (evaluated Spk k) segs n (AgreesAt k k' segs) (legFrom q) chainLimit
+        → TouchedOn (evaluated Spk k) segs n (AgreesAt k k' segs) (legFrom (swapped q)) chainLimit
+        → askedOf k limit segs n m q ≡ askedOf k' limit segs n m q
     bytes-chained f r a b =
         own-chained _ _ _ _ _ _ _ f r
-        (touched-on (evaluated Spk k) (t .segments) (AgreesAt k k' (t .segments)) (Alike (evaluated Spk k) (evaluated Spk k') (t .segments)) alike (t .count) (legFrom q) chainLimit a)
-        (touched-on (evaluated Spk k) (t .segments) (AgreesAt k k' (t .segments)) (Alike (evaluated Spk k) (evaluated Spk k') (t .segments)) alike (t .count) (legFrom (swapped q)) chainLimit b)
+        (touched-on (evaluated Spk k) segs (AgreesAt k k' segs) (Alike (evaluated Spk k) (evaluated Spk k') segs) alike n (legFrom q) chainLimit a)
+        (touched-on (evaluated Spk k) segs (AgreesAt k k' segs) (Alike (evaluated Spk k) (evaluated Spk k') segs) alike n (legFrom (swapped q)) chainLimit b)
 
-  pub bytes-alone : (i : ℕ) (et : Float) → AgreesAt k k' (t .segments) i
-      → aloneAnswer tableLimit (evaluated Spk k) (t .segments) (t .count) i et ≡ aloneAnswer tableLimit (evaluated Spk k') (t .segments) (t .count) i et
+  pub bytes-alone : (i : ℕ) (et : Float) → AgreesAt k k' segs i
+      → aloneAnswer limit (evaluated Spk k) segs n i et ≡ aloneAnswer limit (evaluated Spk k') segs n i et
   bytes-alone i et g = own-alone _ _ _ _ _ i et (alike i g)

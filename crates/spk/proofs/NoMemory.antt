@@ -9,33 +9,29 @@
 --     no-memory-of     the same for each of many customers
 --     interleaving     so two runs in which a customer asks the same give him the same, whatever the others ask, in whatever order,
 --                      and whatever is remembered at the start
---     opened-no-memory the same of a table as `marked_all` leaves it
 -- The one thing it asks is that the marks are right, `MarkedRight`: in a forged table a wrong mark can change a choice.
 -- Assumes nothing.
 use mathlib.Core.Path.{_≡_, refl, sym, ap, ap₂, _∙_}
 use mathlib.Core.Logic.{⊎-elim}
 use mathlib.Core.Bool.{Bool, true, false, not, cond, _&&_, true≢false}
 use mathlib.Core.List.{List, [], _∷_, map}
-use Prim.Native.Nat.{ℕ, zero, suc, _≤_, _<_}
+use Prim.Native.Nat.{ℕ, zero, suc, _<_}
 use native.Mathlib.Nat.{not-suc-le-zero, le-of-suc-le-suc, eq-or-lt-of-le}
 use borrow.Author.Tests.{ltb-true, ne-eqb, not-true}
 use lib.Dec.{ltb, eqb}
 use lib.Ieee.{le, isNan}
-use lib.ListN.{length}
 use Rattle.bits.specs.Same.{sameZ}
 use Rattle.bits.proofs.Order.{le-trans}
 use Rattle.bits.proofs.Tests.{by-test, and-first, and-second, and-both, or-left, or-right, sameZ-eq, eq-sameZ}
 use Rattle.refusal.specs.declared.Refusal.the-variants.{TableUnfit, EpochNan}
 use Rattle.refusal.specs.Order.{case, firstOf}
 use Rattle.segment.specs.declared.Segment.{Segment}
-use Rattle.table.specs.declared.Table.{Table}
 use Rattle.table.specs.declared.Choice.{Choice}
 use Rattle.table.specs.declared.Choice.the-variants.{At, Nothing}
 use Rattle.table.specs.Segments.{isCovering, overlaps, seg}
 use Rattle.table.specs.Choosing.{orElse}
-use Rattle.table.specs.Marks.{rivals, others, marks, MarkedRight}
+use Rattle.table.specs.Marks.{rivals, others, MarkedRight}
 use Rattle.table.proofs.Last.{last-alone}
-use Rattle.table.proofs.Marks.{marks-right}
 use Rattle.chain.specs.Step.{Evaluation}
 use Rattle.spk.specs.declared.Question.{Question}
 use Rattle.spk.specs.declared.Memory.{Memory}
@@ -174,9 +170,3 @@ module _ (segs : List Segment) (n : ℕ) (right : MarkedRight segs n) where
         → ofCustomer who (serve limit ev segs n m ts) ≡ ofCustomer who (serve limit ev segs n m' ts')
     interleaving who m m' ts ts' e =
         no-memory-of who m ts ∙ ap (map (fresh limit ev segs n)) e ∙ sym (no-memory-of who m' ts')
-
--- a table as `marked_all` leaves it
-pub opened-no-memory : (t : Table) → t .count ≤ length (t .segments) → (limit : ℕ) (ev : Evaluation) (m : Memory) (asks : List Asking)
-    → run limit ev (marks t .segments) (t .count) m asks ≡ map (fresh limit ev (marks t .segments) (t .count)) asks
-opened-no-memory t h limit ev m asks =
-    no-memory (marks t .segments) (t .count) (marks-right (t .segments) (t .count) h) limit ev m asks

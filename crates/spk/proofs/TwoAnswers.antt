@@ -7,9 +7,7 @@ use Rattle.frame.specs.Frame.{Matrix}
 use Rattle.daf.specs.declared.Family.the-variants.{Spk}
 use Rattle.segment.specs.declared.Evaluated.{Evaluated}
 use Rattle.segment.specs.Evaluating.{evaluated}
-use Rattle.table.specs.declared.Table.{Table}
-use Rattle.table.specs.Places.{tableLimit}
-use Rattle.table.specs.Marks.{marks}
+use Rattle.segment.specs.declared.Segment.{Segment}
 use Rattle.table.specs.Naming.{nameAt}
 use Rattle.chain.specs.declared.Leg.{Leg}
 use Rattle.chain.specs.Walk.{toZero}
@@ -26,33 +24,30 @@ use Rattle.spk.specs.Alone.{aloneAnswer}
 two : {A : Type 0} (d r r' : A) → r ≡ d → r' ≡ d → r ≡ r'
 two d r r' e e' = e ∙ sym e'
 
-module _ (k : List ℕ) (t : Table) (m : Memory) (q : Question) (wanted : Wanted) (rot : Matrix) where
+module _ (k : List ℕ) (limit : ℕ) (segs : List Segment) (n : ℕ) (m : Memory) (q : Question) (wanted : Wanted) (rot : Matrix) where
   -- `state`
-  pub two-states : (r r' : Asked) → r ≡ asked tableLimit (evaluated Spk k) (t .segments) (t .count) m q
-      → r' ≡ asked tableLimit (evaluated Spk k) (t .segments) (t .count) m q → r ≡ r'
+  pub two-states : (r r' : Asked) → r ≡ asked limit (evaluated Spk k) segs n m q
+      → r' ≡ asked limit (evaluated Spk k) segs n m q → r ≡ r'
   two-states r r' = two _ r r'
 
   -- `state_in`
-  pub two-states-in : (r r' : Asked) → r ≡ askedIn tableLimit (evaluated Spk k) (t .segments) (t .count) m q wanted rot
-      → r' ≡ askedIn tableLimit (evaluated Spk k) (t .segments) (t .count) m q wanted rot → r ≡ r'
+  pub two-states-in : (r r' : Asked) → r ≡ askedIn limit (evaluated Spk k) segs n m q wanted rot
+      → r' ≡ askedIn limit (evaluated Spk k) segs n m q wanted rot → r ≡ r'
   two-states-in r r' = two _ r r'
 
   -- `alone`
-  pub two-alone : (i : ℕ) (et : Float) (r r' : Answer) → r ≡ aloneAnswer tableLimit (evaluated Spk k) (t .segments) (t .count) i et
-      → r' ≡ aloneAnswer tableLimit (evaluated Spk k) (t .segments) (t .count) i et → r ≡ r'
+  pub two-alone : (i : ℕ) (et : Float) (r r' : Answer) → r ≡ aloneAnswer limit (evaluated Spk k) segs n i et
+      → r' ≡ aloneAnswer limit (evaluated Spk k) segs n i et → r ≡ r'
   two-alone i et r r' = two _ r r'
 
 -- `turned`
 pub two-turned : (wanted : Wanted) (rot : Matrix) (a r r' : Answer) → r ≡ turnedAnswer wanted rot a → r' ≡ turnedAnswer wanted rot a → r ≡ r'
 two-turned wanted rot a r r' = two _ r r'
 
--- `marked_all` and `name` of the table, and `state_wrt_ssb` of the chain
-pub two-marked : (t r r' : Table) → r ≡ marks t → r' ≡ marks t → r ≡ r'
-two-marked t r r' = two _ r r'
+-- `name`, and the walk of a chain
+pub two-names : (k : List ℕ) (limit : ℕ) (segs : List Segment) (n : ℕ) (i : ℕ) (r r' : List ℕ) → r ≡ nameAt limit k segs n i → r' ≡ nameAt limit k segs n i → r ≡ r'
+two-names k limit segs n i r r' = two _ r r'
 
-pub two-names : (k : List ℕ) (t : Table) (i : ℕ) (r r' : List ℕ) → r ≡ nameAt tableLimit k (t .segments) (t .count) i → r' ≡ nameAt tableLimit k (t .segments) (t .count) i → r ≡ r'
-two-names k t i r r' = two _ r r'
-
-pub two-walks : (k : List ℕ) (t : Table) (leg : Leg) (r r' : Evaluated) → r ≡ toZero (evaluated Spk k) (t .segments) (t .count) leg
-    → r' ≡ toZero (evaluated Spk k) (t .segments) (t .count) leg → r ≡ r'
-two-walks k t leg r r' = two _ r r'
+pub two-walks : (k : List ℕ) (limit : ℕ) (segs : List Segment) (n : ℕ) (leg : Leg) (r r' : Evaluated) → r ≡ toZero (evaluated Spk k) segs n leg
+    → r' ≡ toZero (evaluated Spk k) segs n leg → r ≡ r'
+two-walks k limit segs n leg r r' = two _ r r'

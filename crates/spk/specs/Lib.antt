@@ -1,10 +1,10 @@
 -- The definitions that the contracts of `spk` cite.
-pub mod Questions
-pub mod Choosing
-pub mod Scanning
+pub mod Alone
 pub mod Answers
 pub mod Asking
-pub mod Turning
-pub mod Alone
+pub mod Choosing
+pub mod Finding
+pub mod Questions
 pub mod Runs
+pub mod Turning
 pub mod When

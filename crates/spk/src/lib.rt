@@ -1,18 +1,20 @@
 // Questions to an opened SPK: which segment answers, the memory, the chain, and the frame that a state is asked in.
 ghost use mathlib.Core.Path.{_≡_};
-ghost use Prim.Native.Nat.{_≤_, _<_};
+ghost use Prim.Native.Nat.{_<_};
 ghost use Rattle.daf.specs.declared.Family.the-variants.{Spk};
 ghost use Rattle.segment.specs.Evaluating.{evaluated};
-ghost use Rattle.table.specs.Places.{tableLimit};
+ghost use Rattle.table.specs.Places.{lentLimit, limitOf};
 ghost use Rattle.table.specs.Choosing.{orElse};
+ghost use Rattle.table.specs.Steps.{Within};
 ghost use Rattle.spk.specs.Questions.{isSame, swapped, isPair, hits, serves};
 ghost use Rattle.spk.specs.Choosing.{rememberedAt};
-ghost use Rattle.spk.specs.Scanning.{placeOf, hitAt};
-ghost use Rattle.spk.specs.Answers.{answerOf, refusedAnswer, sameAnswer, settled, negatedOf, lessOf};
-ghost use Rattle.spk.specs.Asking.{legFrom, chained, asked};
-ghost use Rattle.spk.specs.Turning.{frameOf, isRefused, turnedTo, turnedAnswer, askedIn};
-ghost use Rattle.spk.specs.Alone.{aloneAnswer};
+ghost use Rattle.spk.specs.Answers.{answerOf, refusedAnswer, sameAnswer, settled, negatedOf, lessOf, differenceOf};
+ghost use Rattle.spk.specs.Asking.{legFrom};
+ghost use Rattle.spk.specs.Turning.{frameOf, isRefused, turnedTo, turnedAnswer, turnedAsked};
+ghost use Rattle.spk.specs.Finding.{hitAt, placeKept, recalledBy, backBy, looked, askedWith, aloneWith};
+ghost use Rattle.chain.specs.Steps.{begin};
 use chain::Leg;
+use chain::Next;
 use daf::Family;
 use frame::NaifFrame;
 use frame::State;
@@ -72,7 +74,7 @@ impl Question {
     }
 
     // The same question with the pair swapped.
-    fn swapped(self) -> Question
+    pub fn swapped(self) -> Question
         ensures { λ r. ⌜ r ≡ swapped self ⌝ }
     {
         Question {
@@ -118,16 +120,6 @@ impl Question {
 }
 
 impl Memory {
-    // The remembered segment's number; where there is none, one that no table has.
-    fn place(self) -> usize
-        ensures { λ r. ⌜ r ≡ placeOf self ⌝ }
-    {
-        match self {
-            Memory::Blank => Table::PLACES,
-            Memory::Kept(i) => i,
-        }
-    }
-
     // What is remembered after segment i was chosen forward.
     fn after(self, i: usize, s: Segment) -> Memory
         ensures { λ r. ⌜ r ≡ rememberedAt self i s ⌝ }
@@ -244,7 +236,7 @@ fn less(a: State, e: Evaluated) -> Evaluated
 
 // Segment i answers in its own direction.
 fn evaluated_at(kernel: &[u8], i: usize, s: Segment, et: f64) -> Answer
-    requires { ⌜ i < tableLimit ⌝ }
+    requires { ⌜ i < lentLimit ⌝ }
     ensures { λ r. ⌜ r ≡ settled (Way.Forward i) (evaluated Spk (now (kernel .entry)) s i et) ⌝ }
 {
     Answer::settled(
@@ -255,7 +247,7 @@ fn evaluated_at(kernel: &[u8], i: usize, s: Segment, et: f64) -> Answer
 
 // Segment i, which was chosen forward, answers; and it is remembered if it is marked, whatever evaluating it comes to.
 fn forward(kernel: &[u8], memory: Memory, i: usize, s: Segment, et: f64) -> Asked
-    requires { ⌜ i < tableLimit ⌝ }
+    requires { ⌜ i < lentLimit ⌝ }
     ensures { λ r. ⌜ r ≡ record { answer = settled (Way.Forward i) (evaluated Spk (now (kernel .entry)) s i et); memory = rememberedAt memory i s } ⌝ }
 {
     let answer = evaluated_at(kernel, i, s, et);
@@ -268,34 +260,11 @@ fn forward(kernel: &[u8], memory: Memory, i: usize, s: Segment, et: f64) -> Aske
 
 // Segment i, which was chosen reversed, answers.
 fn reversed(kernel: &[u8], i: usize, s: Segment, et: f64) -> Answer
-    requires { ⌜ i < tableLimit ⌝ }
+    requires { ⌜ i < lentLimit ⌝ }
     ensures { λ r. ⌜ r ≡ settled (Way.Reversed i) (negatedOf (evaluated Spk (now (kernel .entry)) s i et)) ⌝ }
 {
     let e = segment::evaluate(kernel, Family::Spk, s, i as u32, et);
     Answer::settled(Way::Reversed(i), negated(e))
-}
-
-// The chain: target's state to body 0, then center's, subtracted.
-fn state_via_ssb_chain(kernel: &[u8], table: Table, q: Question) -> Evaluated
-    requires { ⌜ table .count ≤ tableLimit ⌝ }
-    ensures { λ r. ⌜ r ≡ chained (evaluated Spk (now (kernel .entry))) (table .segments) (table .count) q ⌝ }
-{
-    let target = chain::state_wrt_ssb(kernel, table, q.leg());
-    match target {
-        Evaluated::Refused(r) => Evaluated::Refused(r),
-        Evaluated::State(a) => {
-            let back = q.swapped();
-            less(a, chain::state_wrt_ssb(kernel, table, back.leg()))
-        }
-    }
-}
-
-// The answer by a chain.
-fn chained(kernel: &[u8], table: Table, q: Question) -> Answer
-    requires { ⌜ table .count ≤ tableLimit ⌝ }
-    ensures { λ r. ⌜ r ≡ settled Way.Chained (chained (evaluated Spk (now (kernel .entry))) (table .segments) (table .count) q) ⌝ }
-{
-    Answer::settled(Way::Chained, state_via_ssb_chain(kernel, table, q))
 }
 
 // An answer that leaves the memory.
@@ -309,7 +278,7 @@ fn unchanged(answer: Answer, memory: Memory) -> Asked
 }
 
 // What was kept, else segment i where it is of the pair and covers the epoch.
-fn or_hit(kept: Choice, q: Question, s: Segment, i: usize) -> Choice
+pub fn or_hit(kept: Choice, q: Question, s: Segment, i: usize) -> Choice
     ensures { λ r. ⌜ r ≡ orElse kept (hitAt q s i) ⌝ }
 {
     match kept {
@@ -324,72 +293,138 @@ fn or_hit(kept: Choice, q: Question, s: Segment, i: usize) -> Choice
     }
 }
 
-// A question with a memory. One function takes the table: it looks at the remembered segment, and scans for the pair and the swapped
-// pair at once, the last in file order first; the chosen segment goes on by value.
-pub fn state(kernel: &[u8], table: Table, memory: Memory, q: Question) -> Asked
-    ensures { λ r. ⌜ r ≡ asked tableLimit (evaluated Spk (now (kernel .entry))) (table .segments) (table .count) memory q ⌝ }
+// ---- what a question goes by: the segments that were found are handed in
+
+// The remembered number, or n.
+pub fn place_kept(m: Memory, n: usize) -> usize
+    ensures { λ r. ⌜ r ≡ placeKept m n ⌝ }
+{
+    match m {
+        Memory::Blank => n,
+        Memory::Kept(i) => i,
+    }
+}
+
+// Segment i, which is s, if it is below n and serves from memory.
+pub fn recalled(q: Question, s: Segment, i: usize, n: usize) -> Choice
+    ensures { λ r. ⌜ r ≡ recalledBy q s i n ⌝ }
+{
+    if i < n {
+        if q.serves(s) {
+            return Choice::At(i);
+        }
+    }
+    Choice::Nothing
+}
+
+// Where the walk of a question's target starts: body 0 takes no step.
+pub fn start_of(q: Question) -> Next
+    ensures { λ r. ⌜ r ≡ begin (legFrom q) ⌝ }
+{
+    let leg = q.leg();
+    if chain::is_home(leg) {
+        let total = leg.total;
+        return Next::Ended(Evaluated::State(total));
+    }
+    Next::Onward(leg)
+}
+
+// The first less the second. The first's refusal comes first.
+pub fn difference(a: Evaluated, b: Evaluated) -> Evaluated
+    ensures { λ r. ⌜ r ≡ differenceOf a b ⌝ }
+{
+    match a {
+        Evaluated::Refused(r) => Evaluated::Refused(r),
+        Evaluated::State(x) => less(x, b),
+    }
+}
+
+// The answer by the reversed choice c, which is s, or by what the chain came to.
+pub fn back_by(kernel: &[u8], c: Choice, s: Segment, q: Question, e: Evaluated) -> Answer
+    requires { ⌜ Within lentLimit c ⌝ }
+    ensures { λ r. ⌜ r ≡ backBy (evaluated Spk (now (kernel .entry))) c s q e ⌝ }
+{
+    match c {
+        Choice::At(i) => reversed(kernel, i, s, q.et),
+        Choice::Nothing => Answer::settled(Way::Chained, e),
+    }
+}
+
+// How many segments are looked at: none where the question is decided before.
+pub fn looked(places: usize, n: usize, q: Question) -> usize
+    ensures { λ r. ⌜ r ≡ looked (limitOf places) n q ⌝ }
+{
+    if q.is_same() {
+        return 0;
+    }
+    if Table::LENT < n {
+        return 0;
+    }
+    if places < n {
+        return 0;
+    }
+    if q.et != q.et {
+        return 0;
+    }
+    n
+}
+
+// The answer by the tests before any segment, else by the forward choice c, which is s, else the answer a.
+pub fn settle(
+    kernel: &[u8],
+    places: usize,
+    n: usize,
+    memory: Memory,
+    q: Question,
+    c: Choice,
+    s: Segment,
+    a: Answer,
+) -> Asked
+    requires { ⌜ Within lentLimit c ⌝ }
+    ensures { λ r. ⌜ r ≡ askedWith (limitOf places) (evaluated Spk (now (kernel .entry))) n memory q c s a ⌝ }
 {
     if q.is_same() {
         return unchanged(Answer::same(), memory);
     }
-    let n = table.count;
-    if Table::PLACES < n {
+    if Table::LENT < n {
+        return unchanged(Answer::refused(Refusal::TableUnfit), memory);
+    }
+    if places < n {
         return unchanged(Answer::refused(Refusal::TableUnfit), memory);
     }
     if q.et != q.et {
         return unchanged(Answer::refused(Refusal::EpochNan), memory);
     }
-    let place = memory.place();
-    if place < n {
-        let s = table.segments[place];
-        if q.serves(s) {
-            return forward(kernel, memory, place, s, q.et);
-        }
-    }
-    let back = q.swapped();
-    let mut kept = Choice::Nothing;
-    let mut i = n;
-    while 0 < i {
-        let k = i - 1;
-        let s = table.segments[k];
-        if q.hits(s) {
-            return forward(kernel, memory, k, s, q.et);
-        }
-        kept = or_hit(kept, back, s, k);
-        i = k;
-    }
-    match kept {
-        Choice::At(k) => {
-            let s = table.segments[k];
-            unchanged(reversed(kernel, k, s, q.et), memory)
-        }
-        Choice::Nothing => unchanged(chained(kernel, table, q), memory),
+    match c {
+        Choice::At(i) => forward(kernel, memory, i, s, q.et),
+        Choice::Nothing => unchanged(a, memory),
     }
 }
 
-// A question in a frame.
-pub fn state_in(
-    kernel: &[u8],
-    table: Table,
-    memory: Memory,
-    q: Question,
-    wanted: Wanted,
-    rot: [[f64; 3]; 3],
-) -> Asked
-    ensures { λ r. ⌜ r ≡ askedIn tableLimit (evaluated Spk (now (kernel .entry))) (table .segments) (table .count) memory q wanted rot ⌝ }
+// An answer in the frame that it is asked in. The memory stays.
+pub fn turned(a: Asked, wanted: Wanted, rot: [[f64; 3]; 3]) -> Asked
+    ensures { λ r. ⌜ r ≡ turnedAsked wanted rot a ⌝ }
 {
-    let asked = state(kernel, table, memory, q);
-    let answer = asked.answer;
-    let kept = asked.memory;
+    let answer = a.answer;
+    let kept = a.memory;
     unchanged(answer.turned(wanted, rot), kept)
 }
 
-// A segment evaluated alone by its number, covering or not.
-pub fn alone(kernel: &[u8], table: Table, number: usize, et: f64) -> Answer
-    ensures { λ r. ⌜ r ≡ aloneAnswer tableLimit (evaluated Spk (now (kernel .entry))) (table .segments) (table .count) number et ⌝ }
+// Segment `number`, which is s, by the tests before any evaluation, else evaluated.
+pub fn alone_by(
+    kernel: &[u8],
+    places: usize,
+    n: usize,
+    number: usize,
+    et: f64,
+    s: Segment,
+) -> Answer
+    ensures { λ r. ⌜ r ≡ aloneWith (limitOf places) (evaluated Spk (now (kernel .entry))) n number et s ⌝ }
 {
-    let n = table.count;
-    if Table::PLACES < n {
+    if Table::LENT < n {
+        return Answer::refused(Refusal::TableUnfit);
+    }
+    if places < n {
         return Answer::refused(Refusal::TableUnfit);
     }
     if et != et {
@@ -398,6 +433,5 @@ pub fn alone(kernel: &[u8], table: Table, number: usize, et: f64) -> Answer
     if n <= number {
         return Answer::refused(Refusal::NoSegment);
     }
-    let s = table.segments[number];
     evaluated_at(kernel, number, s, et)
 }

@@ -14,22 +14,6 @@ use Rattle.table.specs.declared.Choice.the-variants.{At, Nothing}
 use Rattle.table.specs.Segments.{seg}
 use Rattle.table.specs.Choosing.{lastIn, orElse}
 
--- ---- a choice's number is below a bound
-abbrev pub Below : ℕ → Choice → Type 0
-Below n (At i) = i < n
-Below n Nothing = Unit {0}
-
-pub below-at : (n : ℕ) (c : Choice) (i : ℕ) → c ≡ At i → Below n c → i < n
-below-at n c i e b = subst (Below n) e b
-
-pub below-cond : (n : ℕ) (b : Bool) (x y : Choice) → Below n x → Below n y → Below n (cond b x y)
-below-cond n true x y p q = p
-below-cond n false x y p q = q
-
-pub below-else : (n : ℕ) (x y : Choice) → Below n x → Below n y → Below n (orElse x y)
-below-else n (At i) y p q = p
-below-else n Nothing y p q = q
-
 module _ (test : Segment → Bool) (segs : List Segment) where
   -- nothing is left
   pub last-none : (i : ℕ) → i ≡ 0 → lastIn test segs i ≡ Nothing

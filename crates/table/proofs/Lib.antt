@@ -1,5 +1,7 @@
 -- Laws that callers cite.
-pub mod Marks
-pub mod Last
-pub mod Names
 pub mod Cases
+pub mod Choices
+pub mod Last
+pub mod Limits
+pub mod Marks
+pub mod Names

@@ -4,7 +4,7 @@ use mathlib.Core.Path.{_≡_, refl, sym, ap, ap₂, _∙_}
 use mathlib.Core.Logic.{⊎-elim}
 use mathlib.Core.Bool.{Bool, true, false, not, _&&_, _||_}
 use mathlib.Core.List.{List}
-use Prim.Native.Nat.{ℕ, zero, suc, _+_, _≤_, _<_}
+use Prim.Native.Nat.{ℕ, zero, suc, _+_, _≤_, _<_, zero-le}
 use native.Mathlib.Nat.{not-suc-le-zero, le-of-suc-le-suc, eq-or-lt-of-le}
 use native.Mathlib.Numerals.{add-one}
 use native.Mathlib.Omega.{arith}
@@ -14,9 +14,9 @@ use lib.Ieee.{nan}
 use lib.ListN.{length, set, length-set}
 use lib.Seq.{getD-set-same, getD-set-other, set-out}
 use Rattle.segment.specs.declared.Segment.{Segment}
-use Rattle.table.specs.declared.Table.{Table}
 use Rattle.table.specs.Segments.{overlaps, withMark, seg, blank}
 use Rattle.table.specs.Marks.{rivals, others, mark, markedTo, MarkedRight}
+use Rattle.table.specs.Steps.{leftUnless}
 
 -- ---- `others`, with what was met so far
 or-assoc : (a b c : Bool) → (a || (b || c)) ≡ ((a || b) || c)
@@ -39,10 +39,6 @@ module _ (segs : List Segment) (a : Segment) (i : ℕ) where
   others-more met j k e = ap (λ (x : ℕ). met || others segs a i x) e ∙ or-assoc met (rivals a i (seg segs k) k) (others segs a i k)
 
 -- ---- `markedTo`
--- two tables are equal by their fields
-pub table-eq : (a b : Table) → a .segments ≡ b .segments → a .count ≡ b .count → a ≡ b
-table-eq a b p q = λ i. record { segments = p i; count = q i }
-
 pub marked-none : (segs : List Segment) (n : ℕ) → segs ≡ markedTo segs n 0
 unfolding markedTo
 marked-none segs n = refl
@@ -117,3 +113,19 @@ module _ (segs : List Segment) (n : ℕ) where
   marks-right le i h =
       let e = at-marked n i le h in
       ap (λ (s : Segment). s .marked) e ∙ ap not (sym (others-kept (seg segs i) (seg (markedTo segs n n) i) i n (mark segs n i) e n))
+
+-- ---- the scan for a rival, which ends at the first
+pub left-or : (b : Bool) (g : ℕ → Bool) (k : ℕ) → (b || g k) ≡ (b || g (leftUnless b k))
+left-or true g k = refl
+left-or false g k = refl
+
+pub unless-most : (b : Bool) (k : ℕ) → leftUnless b k ≤ k
+unless-most true k = zero-le
+unless-most false k = omega arith
+
+module _ (segs : List Segment) (a : Segment) (i : ℕ) where
+  pub rival-turn : (b : Bool) (k : ℕ) → (b || others segs a i (suc k)) ≡ ((b || rivals a i (seg segs k) k) || others segs a i (leftUnless (b || rivals a i (seg segs k) k) k))
+  rival-turn b k = others-more segs a i b (suc k) k refl ∙ left-or (b || rivals a i (seg segs k) k) (others segs a i) k
+
+  pub rival-end : (b : Bool) → (b || others segs a i zero) ≡ b
+  rival-end b = others-none segs a i b zero refl

@@ -4,3 +4,4 @@ pub mod Places
 pub mod Choosing
 pub mod Marks
 pub mod Naming
+pub mod Steps

@@ -1,0 +1,30 @@
+-- What the small functions of the code do. No promise of a public entry point needs these. Assumes nothing: these are definitions.
+use Prim.Native.Nat.{ℕ}
+use mathlib.Core.Bool.{Bool, true, cond}
+use lib.Dec.{eqb}
+use lib.IntN.{pos}
+use Rattle.bits.specs.F64.{+0}
+use Rattle.frame.specs.State.{zeroState}
+use Rattle.segment.specs.declared.Evaluated.{Evaluated}
+use Rattle.segment.specs.declared.Evaluated.the-variants as evaluation
+use Rattle.chain.specs.declared.Leg.{Leg}
+use Rattle.chain.specs.declared.Next.{Next}
+use Rattle.chain.specs.declared.Next.the-variants.{Ended, Onward}
+use Rattle.chain.specs.Walk.{noCoverage, isHome}
+
+-- The walk has ended, or no step is left; what it then comes to; the leg that it goes on with, where it does.
+abbrev pub isOver : Next → ℕ → Bool
+isOver (Ended e) left = true
+isOver (Onward leg) left = eqb left 0
+
+abbrev pub endOf : Next → Evaluated
+endOf (Ended e) = e
+endOf (Onward leg) = noCoverage (leg .start)
+
+abbrev pub legOf : Next → Leg
+legOf (Ended e) = record { start = pos 0; body = pos 0; et = +0; total = zeroState }
+legOf (Onward leg) = leg
+
+-- Where a walk starts: body 0 takes no step.
+unfoldable pub begin : Leg → Next
+begin leg = cond (isHome leg) (Ended (evaluation.State (leg .total))) (Onward leg)

@@ -1,0 +1,10 @@
+-- Laws that belong to no one function.
+pub mod Again
+pub mod Calls
+pub mod CallsMut
+pub mod Matrices
+pub mod Owner
+pub mod Rows
+pub mod Seg
+pub mod Shared
+pub mod Walking

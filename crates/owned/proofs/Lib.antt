@@ -1,0 +1,4 @@
+-- Laws that belong to no one function.
+pub mod Calls
+pub mod Owning
+pub mod Rows

@@ -1,0 +1,2 @@
+-- The definitions that the contracts of `owned` cite.
+pub mod Owned

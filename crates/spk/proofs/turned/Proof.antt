@@ -1,0 +1,19 @@
+-- `spk::turned` meets its contract: the answer is turned, and the memory stays. Assumes nothing.
+use mathlib.Core.Path.{_∙_, ap}
+use Rattle.spk.proofs.Settling.{asked-eq}
+use mathlib.Core.Path.{refl}
+use borrow.Author.Needs.{needs}
+use Rattle.spk.proofs.turned.Statement.{statement}
+use Rattle.spk.proofs.turned.Tie as tie
+
+turned-requires : tie.Need-turned-requires
+turned-requires c κs = search needs
+
+unchanged-requires : tie.Need-unchanged-requires
+unchanged-requires c κs = search needs
+
+returns : tie.Need-returns
+returns c = c .unchanged .ensures ∙ asked-eq _ _ (c .before .turned .ensures) refl
+
+pub turned-spec : {M : Type 1} → statement M
+turned-spec = tie.close (tie.spec turned-requires unchanged-requires returns)
