@@ -2,7 +2,8 @@
 """scenarios.py FOLDER: the kernels and questions that both sides are measured on, and their list.
 
 Writes NAME.kernel and NAME.questions, and list.tsv: name, mode, what is measured. Sixteen questions each, in
-several records; every question is answered. Numbers are of ordinary size, the same in every run. And usage files as
+several records; every question is answered. Numbers are of ordinary size, the same in every run. A kernel that is
+opened in each pass is asked for a body about itself; `open-0`, not in the list, has no segments. And usage files as
 NAME.kernel beside an empty NAME.questions, with usage.tsv: name, what it is.
 """
 
@@ -64,8 +65,9 @@ def scenarios(chance):
     yield "type9-15", "remember", "type 9, degree 15, remembered", [states(chance, (399, 3, 1, 9), 15)], (399, 3)
     yield "type13", "remember", "type 13, window 8, 50 states, remembered", [states(chance, (399, 3, 1, 13), 7)], (399, 3)
     yield "pck", "orient", "PCK type 2, 14 coefficients, 1 segment", [series(chance, (3000, 1, 2), 14)], (3000,)
-    yield "open-14", "open", "opening, 14 segments", fourteen, (1007, 0)
-    yield "open-256", "open", "opening, 256 segments", full, (1128, 0)
+    yield "open-0", "open", "opening, no segments", [], (399, 399)
+    yield "open-14", "open", "opening, 14 segments", fourteen, (399, 399)
+    yield "open-256", "open", "opening, 256 segments", full, (399, 399)
 
 
 def usage_files(chance):
@@ -95,7 +97,8 @@ def main():
         for suffix, data in (("kernel", kernel.bytes), ("questions", asked)):
             with open(os.path.join(folder, f"{name}.{suffix}"), "wb") as f:
                 f.write(data)
-        lines.append(f"{name}\t{mode}\t{what}\n")
+        if segments:
+            lines.append(f"{name}\t{mode}\t{what}\n")
     with open(os.path.join(folder, "list.tsv"), "w") as f:
         f.writelines(lines)
     with open(os.path.join(folder, "usage.tsv"), "w") as f:

@@ -1,10 +1,10 @@
 #!/usr/bin/env python3
-"""compare.py FOLDER [--ask PROGRAM] [--orient PROGRAM] [--listing PROGRAM] [--cases PROGRAM] [--run WORDS] [--oracle PROGRAM]
+"""compare.py FOLDER [--ask PROGRAM] [--orient PROGRAM] [--listing PROGRAM] [--cases PROGRAM] [--wide PROGRAM] [--run WORDS] [--oracle PROGRAM]
 
 Holds our programs against the given Rust on the cases that gen.py wrote to FOLDER. WORDS start a program
 for x86-64 where the machine is another; PROGRAM may be several words. Without a program its part is only tried on the
 Rust's side, the counts say so, and no answer of it is counted as compared. Segments asked by their number, and tables of
-another kernel, go through `cases`. What our programs have to print comes from the tag and the Rust's lines:
+another kernel, go through `cases`, kernels of over 65,536 bytes through `wide`. What our programs have to print comes from the tag and the Rust's lines:
 
 - opening tagged refused: that refusal line alone, whatever the Rust does; its doing is counted.
 - NaN epoch: 10. A segment asked by its number that doesn't exist: 17. One that the table doesn't fit: 14. The Rust's error of coverage, type, RADIUS: 11, 12, 13 with the detail it names.
@@ -66,7 +66,7 @@ class Case:
     def questions(self, count):
         """(same body, segment that doesn't exist, epoch, the segment if the question tells) of each question to a kernel of so many segments."""
         data = self.read("questions")
-        if self.program == "ask":
+        if self.program in ("ask", "wide"):
             return [(target == center, False, et, None) for _, _, target, center, et in struct.iter_unpack("<BBiid", data)]
         if self.program == "alone":
             return [(False, number >= count, et, number) for _, _, number, et in struct.iter_unpack("<BBId", data)]
@@ -199,7 +199,7 @@ class Comparison:
         """What the Rust prints about a case's questions; the first line is the opening. A table of another kernel: the Rust has the file
         that it opened mapped, and the kernel's bytes are written over it."""
         if not case.forged():
-            return self.rust(case.program, case.rust_kernel(), case.path("questions"), *case.matrix())
+            return self.rust("ask" if case.program == "wide" else case.program, case.rust_kernel(), case.path("questions"), *case.matrix())
         with tempfile.NamedTemporaryFile() as f:
             f.write(case.read("origin"))
             f.flush()
@@ -236,7 +236,7 @@ class Comparison:
         return [case.expect]
 
     def listing(self, case):
-        if case.program == "orient" or case.forged():
+        if case.program in ("orient", "wide") or case.forged():
             return
         want = [case.expect]
         if case.expect == "accepted":
@@ -270,7 +270,7 @@ class Comparison:
 def main():
     parser = argparse.ArgumentParser(description=__doc__, formatter_class=argparse.RawDescriptionHelpFormatter)
     parser.add_argument("folder")
-    for program in ("ask", "orient", "listing", "cases"):
+    for program in ("ask", "orient", "listing", "cases", "wide"):
         parser.add_argument(f"--{program}")
     parser.add_argument("--run", default="")
     parser.add_argument("--oracle", default=os.path.join(HERE, "target/release/oracle"))

@@ -89,7 +89,7 @@ def rounds(chance, kind):
 
 
 def counts(chance, kind):
-    """7, 8: 26 summaries in a record; 257 in all."""
+    """7: 26 summaries in a record. More than 256 in all open: the programs lend 4,096 places."""
     k = Kernel(kind, sample(chance, kind, 4).segments, Layout(held=2))
     for place in k.records:
         for d in (26.0, 26.5, 100.0, 1e18, 1.8446744073709552e19, 1e300, INF):
@@ -99,11 +99,11 @@ def counts(chance, kind):
     again = k.put(k.records[1], double(float(k.records[0] // RECORD + 1)))
     again[k.records[0] + 16 : k.records[0] + 24] = double(26.0)
     yield again, "refused 6 0"
-    for count in (256, 257, 275):
+    for count in (256, 257, 400):
         small = [tiny(chance, kind, i) for i in range(count)]
-        yield Kernel(kind, small).bytes, None if count == 256 else "refused 8 0"
+        yield Kernel(kind, small).bytes, None
     small[3].first = NAN
-    yield Kernel(kind, small).bytes, "refused 8 0"
+    yield Kernel(kind, small).bytes, "refused 9 3"
     full = Kernel(kind, [tiny(chance, kind, i) for i in range(25)])
     yield full.bytes, None
     yield full.put(full.records[0] + 16, double(25.999)), None

@@ -83,8 +83,6 @@ def walks():
     yield "1,024 bytes, FWARD 2^32 - 1", spk().put(76, b"\xff" * 4), at, ["refused 5 0"], ["opening error"]
     yield "an ID word that goes on otherwise", spk(segment(series())).put(4, b"XYZ "), at, [f"0 forward 0 {SIX}"], ["opened 1", f"0 forward 0 {SIX}"]
     yield "a frame number of 17 is J2000", spk(Segment((399, 3, 17, 2), 0.0, 10.0, series())), at, [f"0 forward 0 {SIX}"], ["opened 1", f"0 forward 0 {SIX}"]
-    many = spk(*(segment(series(), pair=(1000 + i, 3)) for i in range(257)))
-    yield "257 summaries", many, ask_record(1256, 3, 1.0), ["refused 8 0"], ["opened 257", "0 forward 256"]
 
 
 def orientations():

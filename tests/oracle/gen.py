@@ -23,6 +23,7 @@ from valid import (BODIES, UNSUPPORTED, alone, chain, layout_of, mixed, orientat
 
 HANDLED = [2, 3, 9, 13]
 LIMIT = 65536
+WIDE = 200000  # what the program `wide` takes
 ORACLE = os.path.join(os.path.dirname(os.path.abspath(__file__)), "target/release/oracle")
 
 
@@ -47,7 +48,7 @@ class Cases:
     def spk(self, family, kernel, asked, aimed=None, program="ask", **more):
         """A case whose tag comes from the bytes and must be the one aimed at."""
         expect = opening(kernel, "spk")
-        check(family, aimed, expect, kernel)
+        check(family, aimed, expect, kernel, WIDE if program == "wide" else LIMIT)
         twin = unwrapped(kernel) if expect == "accepted" else None
         self.add(family, program, kernel, asked, expect, "degree wraps" if twin else "", twin=twin, **more)
 
@@ -61,8 +62,8 @@ class Cases:
             f.write("\n".join(self.lines) + "\n")
 
 
-def check(family, aimed, expect, kernel):
-    if len(kernel) > LIMIT:
+def check(family, aimed, expect, kernel, limit=LIMIT):
+    if len(kernel) > limit:
         raise SystemExit(f"{family}: a kernel of {len(kernel)} bytes")
     if aimed != "any" and expect != (aimed or "accepted"):
         raise SystemExit(f"{family}: aimed at {aimed}, the bytes say {expect}")
@@ -135,14 +136,59 @@ def chains(cases, chance, scale):
             cases.spk(f"chain {shape}", k.bytes, asked + questions(chance, k.segments, 100, BODIES))
 
 
+def packed(chance, n):
+    """A kernel of n type 2 segments: the summary records stand one behind another, and sixteen runs of doubles serve them all."""
+    records = (n + 24) // 25
+    doubles = [[10.0 * i, 5.0, chance.spread(1e8), chance.spread(1e6), chance.spread(1e4), 10.0 * i - 5.0, 10.0, 5.0, 1.0] for i in range(16)]
+    out = bytearray(Kernel("spk", []).bytes[:1024])
+    out[76:80] = struct.pack("<I", 2)
+    address = 128 * (2 + records) + 1
+    segments = []
+    for r in range(records):
+        held = min(25, n - 25 * r)
+        record = bytearray(1024)
+        struct.pack_into("<3d", record, 0, 3.0 + r if r + 1 < records else 0.0, 0.0, float(held))
+        for j in range(held):
+            run, pair = chance.below(16), (1 + chance.below(400), chance.pick([0, 0, 0, 1, 2, 3]))
+            start = address + 9 * run
+            struct.pack_into("<2d6i", record, 24 + 40 * j, 10.0 * run - 5.0, 10.0 * run + 5.0, *pair, 1, 2, start, start + 8)
+            segments.append((pair, run))
+        out += record
+    out += bytes(1024)
+    for run in doubles:
+        out += struct.pack("<9d", *run)
+    return bytes(out), segments
+
+
+def wide(cases, chance):
+    """More segments than fit into 65,536 bytes, up to 4,096."""
+    for n in (777, 1500, 2048, 4095, 4096):
+        kernel, segments = packed(chance, n)
+        asked = b""
+        for _ in range(600):
+            (target, center), run = chance.pick(segments)
+            et = 10.0 * run + chance.spread(6.0)
+            if chance.one_in(3):
+                target, center = center, target
+            if chance.one_in(4):
+                center = chance.pick(segments)[0][0]
+            asked += ask_record(target, center, et)
+        cases.spk(f"{n} segments", kernel, asked, program="wide")
+    cases.spk("4,097 segments", packed(chance, 4097)[0], b"", "refused 8 0", program="wide")
+
+
 def large(cases, chance):
-    """256 segments, a thousand states, a full file of questions."""
+    """256 and 400 segments, a thousand states, a full file of questions."""
     for _ in range(3):
         made = [segment(chance, (chance.pick(BODIES[:5]), chance.pick(BODIES[:5]), 1), 2, 18) for _ in range(256)]
         k = Kernel("spk", [s if len(s.doubles) < 20 else damaged.tiny(chance, "spk", i) for i, s in enumerate(made)])
         for s in k.segments:
             s.edges = s.edges or [s.first, s.last]
         cases.spk("256 segments", k.bytes, questions(chance, k.segments, 800, BODIES[:5]))
+    k = Kernel("spk", [damaged.tiny(chance, "spk", i) for i in range(400)])
+    for s in k.segments:
+        s.edges = s.edges or [s.first, s.last]
+    cases.spk("400 segments", k.bytes, questions(chance, k.segments, 800, list(range(1000, 1040)) + [0]))
     for data_type in (9, 13):
         k = Kernel("spk", [states(chance, (399, 3, 1, data_type), 1000, 7.0, "plain")])
         cases.spk(f"type {data_type}", k.bytes, questions(chance, k.segments, 400, BODIES))
@@ -235,7 +281,7 @@ def main():
     cases = Cases(folder)
     families = [lambda c: accepted_spk(cases, c, scale), lambda c: chains(cases, c, scale), lambda c: large(cases, c), lambda c: wrapped(cases, c)]
     families += [lambda c: accepted_pck(cases, c, scale), lambda c: refusals(cases, c, scale), lambda c: programs(cases, c)]
-    families += [lambda c: written(cases, c, scale), lambda c: by_number(cases, c, scale), lambda c: of_others(cases, c, 20 * scale)]
+    families += [lambda c: written(cases, c, scale), lambda c: by_number(cases, c, scale), lambda c: of_others(cases, c, 20 * scale), lambda c: wide(cases, c)]
     for i, family in enumerate(families):
         family(Chance(seed * 1000 + i))
     cases.close()

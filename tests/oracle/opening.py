@@ -95,7 +95,7 @@ def summaries(kernel, places):
     counts = [cut(double_at(kernel, place + 16), WORD) for place in places]
     if any(n > 25 for n in counts):
         raise Refused(7)
-    if sum(counts) > 256:
+    if sum(counts) > 4096:
         raise Refused(8)
     return [place + 24 + 40 * i for place, n in zip(places, counts) for i in range(n)]
 

@@ -6,6 +6,9 @@ import sys
 
 import second
 
+# the program `cases` stands for a small host
+second.MOST_SEGMENTS = 256
+
 PROGRAMS = {0: "ask", 1: "ask", 2: "orient", 3: "alone"}
 
 

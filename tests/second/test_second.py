@@ -197,9 +197,9 @@ class EveryRefusal(Base):
     def test_opening(self):
         # NEXT's high half: 2 and a fraction, then one by one.
         chain = self.header(0x40000000, 25.0)
-        for record in range(2, 12):
-            following = 0.0 if record == 11 else record + 1.0
-            chain += summary_record(following, 7.0 if record == 11 else 25.0)
+        for record in range(2, 166):
+            following = 0.0 if record == 165 else record + 1.0
+            chain += summary_record(following, 22.0 if record == 165 else 25.0)
         chain += bytes(1024)
         for kernel, refusal in (
                 (b"", Refusal(1, 0)),
@@ -213,7 +213,7 @@ class EveryRefusal(Base):
                 (self.header(count=1.0, first=NAN) + bytes(1024),
                  Refusal(9, 0))):
             self.assertEqual(second.open_spk(kernel), refusal)
-        self.assertEqual(len(chain), 12288)
+        self.assertEqual(len(chain), 169984)
         self.opens(self.header(count=25.0) + bytes(1024), 25)
 
     def test_questions(self):
@@ -225,7 +225,7 @@ class EveryRefusal(Base):
         self.refuses(second.alone(b"", Table(1), 0, 0.0), 12, 0)
         self.refuses(ask(*self.segment(constant(1.0, radius=0.0)), 0.0),
                      13, 0)
-        self.refuses(ask(b"", Table(257), 0.0), 14)
+        self.refuses(ask(b"", Table(4097), 0.0), 14)
         self.refuses(ask(*self.segment(constant(INF)), 0.0), 15)
         self.refuses(second.alone(b"", Table(), 0, 0.0), 17)
         self.assertEqual(second.listing_lines(bytes(65537)),
@@ -408,15 +408,15 @@ class Counts(Base):
             kernel += bytes(1024)
         return bytes(kernel)
 
-    def test_256_and_257(self):
-        self.opens(self.many([25.0] * 10 + [6.0]), 256)
-        self.refuses(second.open_spk(self.many([25.0] * 10 + [7.0])), 8)
+    def test_4096_and_4097(self):
+        self.opens(self.many([25.0] * 163 + [21.0]), 4096)
+        self.refuses(second.open_spk(self.many([25.0] * 163 + [22.0])), 8)
 
     def test_7_before_8(self):
-        self.refuses(second.open_spk(self.many([25.0] * 11 + [26.0])), 7)
+        self.refuses(second.open_spk(self.many([25.0] * 164 + [26.0])), 7)
 
     def test_8_before_9(self):
-        kernel = self.many([25.0] * 10 + [7.0])
+        kernel = self.many([25.0] * 163 + [22.0])
         kernel = patched(kernel, 1024 + 24, doubles([NAN]))
         self.refuses(second.open_spk(kernel), 8)
 
@@ -681,9 +681,9 @@ class Names(Base):
         table = self.opens(kernel)
         self.assertEqual(second.name(kernel, table, 1), b"")
         self.assertEqual(second.name(kernel, table, 2 ** 64 - 1), b"")
-        table.count = 257
+        table.count = 4097
         self.assertEqual(second.name(kernel, table, 0), b"")
-        table.count = 256
+        table.count = 4096
         self.assertEqual(second.name(kernel, table, 0), b"AB")
 
     def test_forged_place(self):
@@ -983,11 +983,11 @@ class Evaluating(Base):
         self.refuses(self.alone(4294967295), 17)
         self.refuses(self.alone(5, NAN), 10)
         self.refuses(self.alone(4, NAN), 10)
-        self.table.count = 257
+        self.table.count = 4097
         self.refuses(self.alone(0, NAN), 14)
-        self.table.count = 256
+        self.table.count = 4096
         self.refuses(self.alone(255), 12, 0)
-        self.refuses(self.alone(256), 17)
+        self.refuses(self.alone(4096), 17)
         self.table.count = 0
         self.refuses(self.alone(0), 17)
 
@@ -1097,7 +1097,7 @@ class Evaluating(Base):
 
 class Questions(Base):
     def test_same_body(self):
-        table = Table(257, [])
+        table = Table(4097, [])
         for et in (0.0, NAN, INF):
             for body in (0, 399, -5):
                 got, memory = second.state(b"", table, 7, body, body, et)
@@ -1106,10 +1106,10 @@ class Questions(Base):
                 self.assertEqual(memory, 7)
 
     def test_14_before_10(self):
-        got, memory = second.state(b"", Table(257, []), 3, 1, 2, NAN)
+        got, memory = second.state(b"", Table(4097, []), 3, 1, 2, NAN)
         self.refuses(got, 14)
         self.assertEqual(memory, 3)
-        got, memory = second.state(b"", Table(256, []), 3, 1, 2, NAN)
+        got, memory = second.state(b"", Table(4096, []), 3, 1, 2, NAN)
         self.refuses(got, 10)
 
     def test_10_before_11(self):
@@ -1375,7 +1375,7 @@ class Chains(Base):
 
     def test_empty_segments_of_a_forged_count(self):
         # 0 about 0, from 0 to 0: of no pair, and no step starts at 0.
-        table = Table(256, [])
+        table = Table(4096, [])
         got, _ = second.state(b"", table, None, 1, 0, 0.0)
         self.refuses(got, 11, 1)
 
@@ -1486,7 +1486,7 @@ class Pck(Base):
         self.refuses(self.orient(-7, 1.0), 11, -7)
         self.refuses(self.orient(3002, 1.0), 13, 4)
         self.refuses(self.orient(3003, 1.0), 15)
-        self.table.count = 257
+        self.table.count = 4097
         self.refuses(self.orient(3000, NAN), 14)
 
     def test_forged(self):
@@ -1676,7 +1676,7 @@ class Damaged(Base):
                                        center, et)
             self.check(got)
             self.check(second.orientation(kernel, table, target, et))
-            number = chance.choice((0, 1, 2, 3, 4, 5, 6, 256))
+            number = chance.choice((0, 1, 2, 3, 4, 5, 6, 4096))
             self.check(second.alone(kernel, table, number, et))
             self.check(second.alone_pck(kernel, table, number, et))
             second.name(kernel, table, number)
@@ -1710,7 +1710,7 @@ class Damaged(Base):
         for _ in range(1500):
             kernel = self.kernels()[0]
             table = second.open_spk(kernel)
-            table.count = chance.choice((6, 6, 6, 3, 0, 256, 257, 2 ** 64))
+            table.count = chance.choice((6, 6, 6, 3, 0, 4096, 4097, 2 ** 64))
             segment = chance.choice(table.segments)
             field = chance.choice(("first", "last", "type", "start", "end",
                                    "kind", "marked", "name_place",
