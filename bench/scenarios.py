@@ -42,6 +42,30 @@ def many(chance, count):
     return out
 
 
+class Packed:
+    """A kernel of so many segments, each of a pair of its own, in less than 200,000 bytes: the summary records stand one behind another, each the name
+    record of the one before, and one run of nine doubles serves all but the segment in the middle."""
+
+    def __init__(self, chance, count):
+        records = (count + 24) // 25
+        out = bytearray(Kernel("spk", []).bytes[:1024])
+        out[76:80] = struct.pack("<I", 2)
+        address = 128 * (2 + records) + 1
+        small = [1600.0, 1600.0, 1.0, 2.0, 3.0, 0.0, SPAN, 5.0, 1.0]
+        large = series(chance, (0, 0, 1, 2), 14).doubles
+        for r in range(records):
+            held = min(25, count - 25 * r)
+            record = bytearray(1024)
+            struct.pack_into("<3d", record, 0, 3.0 + r if r + 1 < records else 0.0, 0.0, float(held))
+            for j in range(held):
+                i = 25 * r + j
+                start, size = (address + 9, len(large)) if i == count // 2 else (address, 9)
+                struct.pack_into("<2d6i", record, 24 + 40 * j, 0.0, SPAN, 1000 + i, 0, 1, 2, start, start + size - 1)
+            out += record
+        out += bytes(1024)
+        self.bytes = bytes(out) + struct.pack(f"<{9 + len(large)}d", *small, *large)
+
+
 def planets(chance):
     """Fourteen segments as of a planetary kernel: ten about 0, four about those."""
     pairs = [(k, 0) for k in range(1, 11)] + [(301, 3), (399, 3), (199, 1), (299, 2)]
@@ -58,6 +82,7 @@ def scenarios(chance):
     yield "fresh-1", "forget", "not remembered, 1 segment", one, (399, 3)
     yield "fresh-14", "forget", "not remembered, 14 segments", fourteen, (1007, 0)
     yield "fresh-256", "forget", "not remembered, 256 segments", full, (1128, 0)
+    yield "fresh-4096", "forget", "not remembered, 4,096 segments", Packed(Chance(3), 4096), (1000 + 2048, 0)
     yield "reversed-14", "remember", "reversed, 14 segments", fourteen, (0, 1007)
     yield "chain", "remember", "chain of 2+2, 14 segments", planets(chance), (301, 199)
     yield "type3", "remember", "type 3, 14 coefficients, remembered", [series(chance, (399, 3, 1, 3), 14)], (399, 3)
@@ -68,6 +93,7 @@ def scenarios(chance):
     yield "open-0", "open", "opening, no segments", [], (399, 399)
     yield "open-14", "open", "opening, 14 segments", fourteen, (399, 399)
     yield "open-256", "open", "opening, 256 segments", full, (399, 399)
+    yield "open-4096", "open", "opening, 4,096 segments", Packed(Chance(3), 4096), (399, 399)
 
 
 def usage_files(chance):
@@ -91,7 +117,7 @@ def main():
     os.makedirs(folder, exist_ok=True)
     lines = []
     for name, mode, what, segments, pair in scenarios(Chance(1)):
-        kernel = Kernel("pck" if mode == "orient" else "spk", segments)
+        kernel = segments if isinstance(segments, Packed) else Kernel("pck" if mode == "orient" else "spk", segments)
         record = orient_record if mode == "orient" else ask_record
         asked = b"".join(record(*pair, 50.0 + 190.0 * i) for i in range(16))
         for suffix, data in (("kernel", kernel.bytes), ("questions", asked)):

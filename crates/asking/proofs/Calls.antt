@@ -59,6 +59,10 @@ use Rattle.asking.proofs.answered as m-answered
 use Rattle.asking.proofs.answered.Symbol.{name as #answered}
 use Rattle.asking.proofs.write_answers as m-write-answers
 use Rattle.asking.proofs.write_answers.Symbol.{name as #write-answers}
+use denote.Builtin.{u16}
+use Rattle.indexed.proofs.Four.{passes-four}
+use Rattle.asking.proofs.write_indexed as m-write-indexed
+use Rattle.asking.proofs.write_indexed.Symbol.{name as #write-indexed}
 
 module _ {M : Type 1} (𝓤 : URA M) (H : Heap 𝓤) (A : Atoms 𝓤) (mem : Memory → SProp 𝓤) (run : Routine → Fun 𝓤) where
   -- the contracts
@@ -82,6 +86,9 @@ module _ {M : Type 1} (𝓤 : URA M) (H : Heap 𝓤) (A : Atoms 𝓤) (mem : Mem
 
   abbrev pub the-write-answers : Contract 𝓤
   the-write-answers = tripleOf 𝓤 H A m-write-answers.signature (m-write-answers.spec 𝓤 H A mem run)
+
+  abbrev pub the-write-indexed : Contract 𝓤
+  the-write-indexed = tripleOf 𝓤 H A m-write-indexed.signature (m-write-indexed.spec 𝓤 H A mem run)
 
   -- ---- question-at
   module _ (κ″ : Lft) (q″ : Share) (a : RefT (List ℕ)) (i : ℕ) where
@@ -246,3 +253,27 @@ module _ {M : Type 1} (𝓤 : URA M) (H : Heap 𝓤) (A : Atoms 𝓤) (mem : Mem
         calls-write-answers fm known within is-n is-m is-w is-b os go =
             passes-three u8 Seg u8 κ κ′ κ″ q q′ q″ k t a (the-write-answers .pre to-write-answers) (asks-write-answers within is-n is-m is-w is-b)
             (calls-held fm the-write-answers to-write-answers (known to-write-answers) Nothing uv (nothing-tells) (‵ (flft κ q) ⊛ ‵ (flft κ′ q′) ⊛ ‵ (flft κ″ q″) ⊛ ‵ ftrue) (λ r. ensured 𝓤 H A m-write-answers.ended (m-write-answers.clauses 𝓤 H A mem run) (κ, (κ′, (κ″, tt))) (k, (t, (a, (n, (m, (w, (b, tt))))))) tt r) (λ u. id⊢ 𝓤 _) Held-write-answers said-write-answers os (λ r e is. split ! $ move ! (1 ∷ []) $ split ! $ move ! (1 ∷ []) $ split ! $ move ! (1 ∷ []) $ drop ! $ move ! (5 ∷ 2 ∷ 4 ∷ 1 ∷ 3 ∷ 0 ∷ []) $ go r e is))
+
+  -- ---- write-indexed
+  module _ (κ κ′ κ‴ κ″ : Lft) (q q′ q‴ q″ : Share) (k : RefT (List ℕ)) (t : RefT (List Segment)) (x : RefT (List ℕ)) (a : RefT (List ℕ)) (n : ℕ) (m : ℕ) (w : Wanted) (b : Matrix) where
+    abbrev pub to-write-indexed : the-write-indexed .Ghost
+    to-write-indexed = (((κ, (κ′, (κ‴, (κ″, tt)))), (q, (q′, (q‴, (q″, tt)))), tt, (k, (t, (x, (a, (n, (m, (w, (b, tt)))))))), (sliceVal (k .ptr) (length (k .now)) ∷ [], (sliceVal (t .ptr) (length (t .now)) ∷ [], (sliceVal (x .ptr) (length (x .now)) ∷ [], (sliceVal (a .ptr) (length (a .now)) ∷ [], (vint w64 n ∷ [], (vint w64 m ∷ [], (wan w ∷ [], (mat b ∷ [], tt))))))))), tt)
+
+    abbrev pub Held-write-indexed : Unit {0} → Type 0
+    Held-write-indexed r = Unit {0}
+
+    module _ (W : Given 𝓤 H A) where
+      asks-write-indexed : 18 * m ≤ length (a .now) → Is usize n (vint w64 n ∷ []) → Is usize m (vint w64 m ∷ []) → Is Wan w (wan w ∷ []) → Is Mat b (mat b ∷ []) → ent 𝓤 (⋆ 𝓤 H A ((((‵ (flft κ q) ⊛ ‵ (flft κ′ q′) ⊛ ‵ (flft κ‴ q‴) ⊛ ‵ (flft κ″ q″) ⊛ ‵ ftrue) ⊛ ‵ (ShrOwn u8 κ k)) ⊛ ‵ (ShrOwn Seg κ′ t)) ∷ ‵ (ShrOwn u16 κ‴ x) ∷ ‵ (ShrOwn u8 κ″ a) ∷ [])) (the-write-indexed .pre to-write-indexed)
+      asks-write-indexed within is-n is-m is-w is-b = qed W ((((‵ (flft κ q) ⊛ ‵ (flft κ′ q′) ⊛ ‵ (flft κ‴ q‴) ⊛ ‵ (flft κ″ q″) ⊛ ‵ ftrue) ⊛ ‵ (ShrOwn u8 κ k)) ⊛ ‵ (ShrOwn Seg κ′ t)) ∷ ‵ (ShrOwn u16 κ‴ x) ∷ ‵ (ShrOwn u8 κ″ a) ∷ []) ∵ says ! within $ split ! $ split ! $ frame ! $ nothing ! $ owned ! Mat (Is Mat) (mat-makes 𝓤 H A W) b _ is-b $ fjoin ! $ owned ! Wan (Is Wan) (wan-makes 𝓤 H A W) w _ is-w $ fjoin ! $ owned ! usize (Is usize) (uint-makes 𝓤 H A W w64) m _ is-m $ fjoin ! $ owned ! usize (Is usize) (uint-makes 𝓤 H A W w64) n _ is-n $ fjoin ! $ move ! (4 ∷ 0 ∷ []) $ fjoin ! $ move ! (3 ∷ 0 ∷ []) $ fjoin ! $ move ! (2 ∷ 0 ∷ []) $ fjoin ! $ move ! (1 ∷ 0 ∷ []) $ fjoin ! $ done !
+
+      said-write-indexed : (r : Unit {0}) → ent 𝓤 (ensured 𝓤 H A m-write-indexed.ended (m-write-indexed.clauses 𝓤 H A mem run) (κ, (κ′, (κ‴, (κ″, tt)))) (k, (t, (x, (a, (n, (m, (w, (b, tt)))))))) tt r) (fact 𝓤 (Held-write-indexed r))
+      said-write-indexed r = factI 𝓤 (Unit {0}) _ tt
+
+      module _ {C : Calls 𝓤 H} {Λ : Loops 𝓤 H} {E : Env 𝓤 H} {Γ : List (Item 𝓤)} {xs : List Opd} {d : Place} {rest : Body} {Q : Post 𝓤 H} where
+        pub calls-write-indexed : FmC 𝓤 H (W .laws) C → Triple 𝓤 (C #write-indexed) the-write-indexed → 18 * m ≤ length (a .now) → Is usize n (vint w64 n ∷ []) → Is usize m (vint w64 m ∷ []) → Is Wan w (wan w ∷ []) → Is Mat b (mat b ∷ [])
+            → Opds (Go {0}) W (raw (the-write-indexed .pre to-write-indexed) ∷ ‵ (ShrOwn u8 κ″ a) ∷ ‵ (ShrOwn u16 κ‴ x) ∷ ‵ (ShrOwn Seg κ′ t) ∷ ‵ (ShrOwn u8 κ k) ∷ Γ) E xs (sliceVal (k .ptr) (length (k .now)) ∷ sliceVal (t .ptr) (length (t .now)) ∷ sliceVal (x .ptr) (length (x .now)) ∷ sliceVal (a .ptr) (length (a .now)) ∷ vint w64 n ∷ vint w64 m ∷ wan w ∷ mat b ∷ [])
+            → ((r : Unit {0}) → Held-write-indexed r → Is Nothing r (uv r ∷ []) → Sq W (‵ (ShrOwn u8 κ k) ∷ ‵ (flft κ q) ∷ ‵ (ShrOwn Seg κ′ t) ∷ ‵ (flft κ′ q′) ∷ ‵ (ShrOwn u16 κ‴ x) ∷ ‵ (flft κ‴ q‴) ∷ ‵ (ShrOwn u8 κ″ a) ∷ ‵ (flft κ″ q″) ∷ Γ) (lands C Λ E d (uv r) rest Q))
+            → Sq W (‵ (ShrOwn u8 κ k) ∷ ‵ (flft κ q) ∷ ‵ (ShrOwn Seg κ′ t) ∷ ‵ (flft κ′ q′) ∷ ‵ (ShrOwn u16 κ‴ x) ∷ ‵ (flft κ‴ q‴) ∷ ‵ (ShrOwn u8 κ″ a) ∷ ‵ (flft κ″ q″) ∷ Γ) (runs C Λ E (seq (call #write-indexed xs d) rest) Q)
+        calls-write-indexed fm known within is-n is-m is-w is-b os go =
+            passes-four u8 Seg u16 u8 κ κ′ κ‴ κ″ q q′ q‴ q″ k t x a (the-write-indexed .pre to-write-indexed) (asks-write-indexed within is-n is-m is-w is-b)
+            (calls-held fm the-write-indexed to-write-indexed (known to-write-indexed) Nothing uv (nothing-tells) (‵ (flft κ q) ⊛ ‵ (flft κ′ q′) ⊛ ‵ (flft κ‴ q‴) ⊛ ‵ (flft κ″ q″) ⊛ ‵ ftrue) (λ r. ensured 𝓤 H A m-write-indexed.ended (m-write-indexed.clauses 𝓤 H A mem run) (κ, (κ′, (κ‴, (κ″, tt)))) (k, (t, (x, (a, (n, (m, (w, (b, tt)))))))) tt r) (λ u. id⊢ 𝓤 _) Held-write-indexed said-write-indexed os (λ r e is. split ! $ move ! (1 ∷ []) $ split ! $ move ! (1 ∷ []) $ split ! $ move ! (1 ∷ []) $ split ! $ move ! (1 ∷ []) $ drop ! $ move ! (7 ∷ 3 ∷ 6 ∷ 2 ∷ 5 ∷ 1 ∷ 4 ∷ 0 ∷ []) $ go r e is))

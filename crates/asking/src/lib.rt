@@ -34,6 +34,9 @@ const MARK: Mark = Mark {
 // A matrix file has nine doubles.
 pub const MATRIX: usize = 72;
 
+// The numbers of an index that has room for 4,096 segments.
+const INDEX: usize = 16384;
+
 // Question i of a file.
 pub fn question_at(asked: &[u8], i: usize) -> Question
     requires { ⌜ 18 * i + 18 ≤ length (now asked) ⌝ }
@@ -190,26 +193,51 @@ pub fn answered(asked: &[u8], p: Plan) -> usize
     }
 }
 
-// Writes what a kernel replies to a file of questions, with a table of 4,096 places that it lends.
-fn reply_in(kernel: &[u8], asked: &[u8], wanted: Wanted, rot: [[f64; 3]; 3]) {
+// The same through an index, over table and index.
+fn write_indexed(
+    kernel: &[u8],
+    table: &[Segment],
+    ix: &[u16],
+    asked: &[u8],
+    n: usize,
+    m: usize,
+    wanted: Wanted,
+    rot: [[f64; 3]; 3],
+)
+    requires { ⌜ 18 * m ≤ length (now asked) ⌝ }
+{
+    let mut memory = Memory::Blank;
+    let mut i: usize = 0;
+    while i < m {
+        let q = question_at(asked, i);
+        let r = indexed::state_in(kernel, table, ix, n, memory, q, wanted, rot);
+        memory = kept_in(r);
+        let next = write_next(i, m, r);
+        i = next;
+    }
+}
+
+// Writes what a kernel replies to a file of questions, with a table of 4,096 places that it lends, through the index that it fills.
+fn reply_in(kernel: &[u8], asked: &[u8], ix: &mut [u16], wanted: Wanted, rot: [[f64; 3]; 3]) {
     let f = family();
     let e = table::no_segment();
     let mut t = [e; Table::LENT];
     let p = plan(kernel, asked);
-    lent::carry_out(&mut t, kernel, f, p);
+    indexed::carry_out(&mut t, ix, kernel, f, p);
     let n = opening::count_in(p);
     let m = answered(asked, p);
-    write_answers(kernel, &t, asked, n, m, wanted, rot);
+    write_indexed(kernel, &t, ix, asked, n, m, wanted, rot);
 }
 
 // Writes what a kernel replies to a file of questions: a refusal, or a line each. With a matrix of 72 bytes each state is asked in ECLIPJ2000. No
 // contract can speak of what is written.
 pub fn reply(kernel: &[u8], asked: &[u8], matrix: &[u8]) {
+    let mut ix = [0u16; INDEX];
     if matrix.len() == MATRIX {
         let to = Wanted::In(NaifFrame::EclipJ2000);
-        reply_in(kernel, asked, to, rows(matrix));
+        reply_in(kernel, asked, &mut ix, to, rows(matrix));
     } else {
         let none = [[0.0; 3]; 3];
-        reply_in(kernel, asked, Wanted::AsItStands, none);
+        reply_in(kernel, asked, &mut ix, Wanted::AsItStands, none);
     }
 }

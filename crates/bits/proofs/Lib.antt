@@ -2,6 +2,7 @@
 pub mod Nan
 pub mod Finite
 pub mod Whole
+pub mod Few
 pub mod Floor
 pub mod Patterns
 pub mod Order

@@ -1,12 +1,14 @@
 -- Two doubles are the same exactly where their bit patterns are. Assumes nothing.
 use mathlib.Core.Path.{_≡_, refl, sym, ap, _∙_, subst}
 use mathlib.Core.Bool.{Bool, true, false, not, _&&_, Bool·beq}
+use Prim.Native.Nat.{ℕ, _^_, _<_}
 use lib.Dec.{T, eqb, eqb→eq, eqb-refl}
 use lib.IntN.{ℤ, pos, negsuc}
 use lib.Ieee.{Float, nan, inf, fin, binary64, fits, isNan, ofBits, toBits}
-use lib.Ieee.Bits.{ofBits-toBits}
+use lib.Ieee.Bits.{ofBits-toBits, toBits-ofBits}
 use lib.Ieee.Fits.{and-i, and-l, and-r}
 use Rattle.bits.specs.Same.{sameZ, same}
+use Rattle.bits.proofs.Nan.{yes}
 
 -- ---- `same` is equality of the data, away from a NaN
 
@@ -98,3 +100,16 @@ bits-same x y X Y n =
     same-test (eqb (toBits binary64 x) (toBits binary64 y)) (same x y)
     (λ h. subst (λ (k : Float). T (same x k)) (one-double x y X Y (eqb→eq (toBits binary64 x) (toBits binary64 y) h)) (same-self x n))
     (λ h. subst (λ (k : Float). T (eqb (toBits binary64 x) (toBits binary64 k))) (same-eq x y h) (eqb-refl (toBits binary64 x)))
+
+-- the test of a pattern b and that of x: b is read as its own double, unless as a NaN, whose patterns are not x's
+pub pattern-same : (b : ℕ) (x : Float) → b < 2 ^ 64 → T (fits binary64 x) → T (not (isNan x)) → eqb b (toBits binary64 x) ≡ same (ofBits binary64 b) x
+pattern-same b x B X n =
+    same-test (eqb b (toBits binary64 x)) (same (ofBits binary64 b) x)
+    (λ h. subst (λ (k : Float). T (same k x)) (sym (ap (ofBits binary64) (eqb→eq b (toBits binary64 x) h) ∙ ofBits-toBits binary64 x X)) (same-self x n))
+    (λ h.
+    let e : ofBits binary64 b ≡ x = same-eq (ofBits binary64 b) x h in
+    subst (λ (k : ℕ). T (eqb b k)) (sym (toBits-ofBits binary64 b B (same-number (ofBits binary64 b) x h)) ∙ ap (toBits binary64) e) (eqb-refl b))
+
+-- a pattern that passed is read as x
+pub pattern-eq : (x y : Float) → same x y ≡ true → x ≡ y
+pattern-eq x y e = same-eq x y (yes e)

@@ -51,6 +51,15 @@ pub or-none : (a b : Bool) → a ≡ false → b ≡ false → (a || b) ≡ fals
 or-none true b e f = e
 or-none false b e f = f
 
+-- an `||` that did not hold, and its halves
+pub or-first : (a b : Bool) → (a || b) ≡ false → a ≡ false
+or-first true b e = e
+or-first false b e = refl
+
+pub or-second : (a b : Bool) → (a || b) ≡ false → b ≡ false
+or-second true b e = absurd (true≢false e)
+or-second false b e = e
+
 -- `sameZ` is equality
 pub sameZ-refl : (a : ℤ) → sameZ a a ≡ true
 sameZ-refl (pos n) = eq-eqb n n refl

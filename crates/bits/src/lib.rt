@@ -1,12 +1,14 @@
 // Numbers and doubles read from little-endian bytes, and whole numbers worked out from a double's bits.
 
 ghost use mathlib.Core.Path.{_≡_};
-ghost use Prim.Native.Nat.{_+_, _*_, _≤_};
+ghost use mathlib.Core.Bool.{true};
+ghost use Prim.Native.Nat.{_+_, _*_, _/_, _^_, _≤_, _<_};
 ghost use lib.ListN.{length};
 ghost use lib.Ieee.{toUnsigned};
 ghost use Rattle.bits.specs.Bytes.{le32, le64, signed32, doubleOf, doubleAt};
 ghost use Rattle.bits.specs.Record.{recordOf};
 ghost use Rattle.bits.specs.Same.{same};
+ghost use Rattle.bits.specs.F64.{finite, whole};
 
 // Four bytes as one number, the least first.
 fn join(a: u8, b: u8, c: u8, d: u8) -> u32
@@ -79,17 +81,17 @@ pub fn double_at(s: &[u8], at: usize) -> f64
 pub fn cut_bits(bits: u64) -> u64
     ensures { λ r. ⌜ r ≡ toUnsigned 64 (doubleOf bits) ⌝ }
 {
-    // above the pattern of infinity: the sign bit is set, or it is a NaN
-    if bits > 0x7ff0_0000_0000_0000 {
-        return 0;
-    }
     let exponent = bits >> 52;
     let digits = (bits & 0xf_ffff_ffff_ffff) | 0x10_0000_0000_0000;
     if exponent < 1023 {
         return 0;
     }
-    if exponent <= 1075 {
+    if exponent < 1075 {
         return digits >> (1075 - exponent);
+    }
+    // above the pattern of infinity: the sign bit is set, or it is a NaN
+    if bits > 0x7ff0_0000_0000_0000 {
+        return 0;
     }
     if exponent < 1087 {
         return digits << (exponent - 1075);
@@ -128,6 +130,38 @@ pub fn record_index(q: f64, n: u64) -> u64
     if k < n { k } else { n - 1 }
 }
 
+// The double that is n.
+fn whole_double(n: u64) -> f64
+    requires { ⌜ n < 2 ^ 31 ⌝ }
+    ensures { λ r. ⌜ r ≡ whole n ⌝ }
+{
+    (n as i32) as f64
+}
+
+// The double of a bit pattern without its fraction, where it is at least 1 and under 2 ^ 53.
+fn cut_whole(bits: u64) -> u64
+    requires { ⌜ (bits ≤ 0x7ff0_0000_0000_0000) × (1023 ≤ bits / 2 ^ 52) × (bits / 2 ^ 52 ≤ 1075) ⌝ }
+    ensures { λ r. ⌜ r ≡ toUnsigned 64 (doubleOf bits) ⌝ }
+{
+    ((bits & 0xf_ffff_ffff_ffff) | 0x10_0000_0000_0000) >> (1075 - (bits >> 52))
+}
+
+// The record that q falls in, of n that a signed number of 32 bits holds: comparisons of doubles leave one way through the bits.
+pub fn record_of_few(q: f64, n: u64) -> u64
+    requires { ⌜ (1 ≤ n) × (n < 2 ^ 31) ⌝ }
+    ensures { λ r. ⌜ r ≡ recordOf q n ⌝ }
+{
+    if 1.0 <= q {
+        if q < whole_double(n) {
+            cut_whole(f64::to_bits(q))
+        } else {
+            n - 1
+        }
+    } else {
+        0
+    }
+}
+
 // Whether a and b have the same bits, and neither is a NaN.
 pub fn same_bits(a: f64, b: f64) -> bool
     ensures { λ r. ⌜ r ≡ same a b ⌝ }
@@ -139,4 +173,20 @@ pub fn same_bits(a: f64, b: f64) -> bool
         return false;
     }
     f64::to_bits(a) == f64::to_bits(b)
+}
+
+// Whether the pattern is that of x.
+pub fn has_bits(bits: u64, x: f64) -> bool
+    requires { ⌜ finite x ≡ true ⌝ }
+    ensures { λ r. ⌜ r ≡ same (doubleOf bits) x ⌝ }
+{
+    bits == f64::to_bits(x)
+}
+
+// Whether the pattern is that of the double that is n.
+pub fn has_whole(bits: u64, n: u64) -> bool
+    requires { ⌜ n < 2 ^ 31 ⌝ }
+    ensures { λ r. ⌜ r ≡ same (doubleOf bits) (whole n) ⌝ }
+{
+    has_bits(bits, whole_double(n))
 }

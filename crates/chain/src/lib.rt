@@ -1,5 +1,6 @@
 // The walk towards body 0 that a chained answer takes, as `state_wrt_ssb` and `step_toward_ssb` of the Rust: what one step and one walk go by.
 ghost use mathlib.Core.Path.{_≡_};
+ghost use mathlib.Core.Bool.{true};
 ghost use Prim.Native.Nat.{_<_};
 ghost use Rattle.daf.specs.declared.Family.the-variants.{Spk};
 ghost use Rattle.segment.specs.Evaluating.{evaluated};
@@ -47,7 +48,7 @@ pub enum Next {
 }
 
 // The segment leaves the current body at the epoch.
-fn leaves(s: Segment, leg: Leg) -> bool
+pub fn leaves(s: Segment, leg: Leg) -> bool
     ensures { λ r. ⌜ r ≡ leaves s leg ⌝ }
 {
     s.target == leg.body && table::is_covering(s, leg.et)
@@ -93,14 +94,11 @@ impl Step {
     }
 }
 
-// The scan with segment i: passed over, or evaluated.
+// The scan with segment i, which leaves the body, evaluated.
 pub fn look(kernel: &[u8], leg: Leg, kept: Step, s: Segment, i: usize) -> Step
-    requires { ⌜ i < lentLimit ⌝ }
+    requires { ⌜ (i < lentLimit) × (leaves s leg ≡ true) ⌝ }
     ensures { λ r. ⌜ r ≡ look (evaluated Spk (now (kernel .entry))) leg kept s i ⌝ }
 {
-    if !leaves(s, leg) {
-        return kept;
-    }
     let e = segment::evaluate(kernel, Family::Spk, s, i as u32, leg.et);
     match e {
         Evaluated::Refused(r) => Step::Refused(r),

@@ -8,7 +8,9 @@ use lib.Ieee.{Float}
 use Rattle.bits.specs.F64.{_⊕_, _⊖_, _⊗_, two, one}
 use Rattle.cheby.specs.declared.Triple.{Triple}
 use Rattle.cheby.specs.Cheby.{T, T′, seriesAt, slopeAt}
-use Rattle.cheby.specs.Steps.{each, none, slopes, scaled, added}
+use Rattle.cheby.specs.declared.Run.{Run}
+use Rattle.cheby.specs.declared.SixRun.{SixRun}
+use Rattle.cheby.specs.Steps.{each, none, slopes, scaled, added, begun, turned, sixTurned, Summed, SixSummed}
 
 module _ (s : Float) (j : ℕ) where
   -- the next polynomial
@@ -52,3 +54,26 @@ module _ (kernel : List ℕ) (q n : ℕ) (s : Float) where
       → sum ≡ each (λ f. slopeAt f (suc (suc j)) s) kernel q n → next ≡ added sum c t → next ≡ each (λ f. slopeAt f (suc (suc (suc j))) s) kernel q n
   unfolding slopeAt
   slopes-turn j ek et ec es en = rw (en, ec, es, et, ek)
+
+  -- ---- the sums of a loop
+
+  -- after the first two terms
+  pub begun-summed : {c₀ c₁ : Triple} {z : Run} → c₀ ≡ each (λ f. f 0) kernel q n → c₁ ≡ each (λ f. f 1) kernel q n → z ≡ begun c₀ c₁ s → Summed kernel q n s 0 z
+  unfolding T T′
+  begun-summed e₀ e₁ ez = rw ez (record { before = refl; last = refl; rate-before = refl; rate-last = refl; value = values-two e₀ e₁ refl refl; slope = slopes-two e₁ refl })
+
+  -- after one term more
+  pub turned-summed : (j : ℕ) {k : ℕ} {c : Triple} {z r : Run} → k ≡ suc (suc j) → c ≡ each (λ f. f k) kernel q n → Summed kernel q n s j z → r ≡ turned z c (two ⊗ s)
+      → Summed kernel q n s (suc j) r
+  turned-summed j ek ec h er =
+      let t = T-turn s j (h .before) (h .last) in
+      let d = T′-turn s j (h .last) (h .rate-before) (h .rate-last) in
+      rw er (record { before = h .last; last = t; rate-before = h .rate-last; rate-last = d; value = values-turn j ek t ec (h .value) refl; slope = slopes-turn j ek d ec (h .slope) refl })
+
+-- of six series
+module _ (kernel : List ℕ) (p q n : ℕ) (s : Float) where
+  pub six-summed : (j : ℕ) {k : ℕ} {z r : SixRun} → k ≡ suc (suc j) → SixSummed kernel p q n s j z → r ≡ sixTurned z (each (λ f. f k) kernel p n) (each (λ f. f k) kernel q n) (two ⊗ s)
+      → SixSummed kernel p q n s (suc j) r
+  six-summed j ek h er =
+      let t = T-turn s j (h .before) (h .last) in
+      rw er (record { before = h .last; last = t; first = values-turn kernel p n s j ek t refl (h .first) refl; second = values-turn kernel q n s j ek t refl (h .second) refl })

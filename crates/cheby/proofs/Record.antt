@@ -13,11 +13,7 @@ use Rattle.frame.specs.declared.State.{State}
 use Rattle.cheby.specs.declared.Triple.{Triple}
 use Rattle.cheby.specs.declared.Cheby.the-variants.{Value, NoRadius}
 use Rattle.cheby.specs.Cheby.{seriesAt, slopeAt, coefficient, argument, valueOf, rateOf, unlessZero, record2, record3, recordFor, type2Of, type3Of}
-use Rattle.cheby.specs.Steps.{values, slopes, scaled}
-
--- a state of a position and a velocity
-abbrev pub joined : Triple → Triple → State
-joined p v = record { x = p .x; y = p .y; z = p .z; vx = v .x; vy = v .y; vz = v .z }
+use Rattle.cheby.specs.Steps.{values, slopes, scaled, joined}
 
 module _ (kernel : List ℕ) (p n : ℕ) where
   -- series c of the record stands at byte q
@@ -46,16 +42,11 @@ module _ (kernel : List ℕ) (p n : ℕ) where
     rate-at c q e =
         ap₂ (λ (v r : Float). v ⊗ (one ⊘ r)) (ap₂ (λ (f : ℕ → Float) (a : Float). slopeAt f n a) (place c q e) argument-is) er
 
-    -- a RADIUS of zero
-    pub type2-none : eq radius +0 ≡ true → NoRadius ≡ type2Of kernel p n et
+    -- where RADIUS is not zero
+    pub type2-some : {val der vel : Triple} {r : State} → eq (doubleAt kernel (p + 8)) +0 ≡ false → val ≡ values kernel (p + 16) n s → der ≡ slopes kernel (p + 16) n s
+        → vel ≡ scaled der (one ⊘ radius) → r ≡ joined val vel → Value r ≡ type2Of kernel p n et
     unfolding record2
-    type2-none t = rw (← er, t)
-
-    -- any other
-    pub type2-some : {val der vel : Triple} → eq radius +0 ≡ false → val ≡ values kernel (p + 16) n s → der ≡ slopes kernel (p + 16) n s
-        → vel ≡ scaled der (one ⊘ radius) → Value (joined val vel) ≡ type2Of kernel p n et
-    unfolding record2
-    type2-some t ev ed ew = rw (ew, ed, ev, ← er, t) (λ i. Value (record {
+    type2-some t ev ed ew ej = rw (ej, ew, ed, ev, t) (λ i. Value (record {
       x = value-at 0 (p + 16) (omega arith) i;
       y = value-at 1 (p + 16 + 8 * n) (omega arith) i;
       z = value-at 2 (p + 16 + 16 * n) (omega arith) i;
@@ -65,9 +56,9 @@ module _ (kernel : List ℕ) (p n : ℕ) where
     }))
 
     -- six values
-    pub type3-both : {val vel : Triple} → val ≡ values kernel (p + 16) n s → vel ≡ values kernel (p + 16 + 24 * n) n s → joined val vel ≡ type3Of kernel p n et
+    pub type3-both : {val vel : Triple} {r : State} → val ≡ values kernel (p + 16) n s → vel ≡ values kernel (p + 16 + 24 * n) n s → r ≡ joined val vel → r ≡ type3Of kernel p n et
     unfolding record3
-    type3-both ev ew = rw (ew, ev) (λ i. record {
+    type3-both ev ew ej = rw (ej, ew, ev) (λ i. record {
       x = value-at 0 (p + 16) (omega arith) i;
       y = value-at 1 (p + 16 + 8 * n) (omega arith) i;
       z = value-at 2 (p + 16 + 16 * n) (omega arith) i;

@@ -2,3 +2,4 @@
 pub mod ByValue
 pub mod Lent
 pub mod Statements
+pub mod Indexed

@@ -1,3 +1,4 @@
 -- What is proved beyond the contracts.
 pub mod Demands
 pub mod Statements
+pub mod Indexed

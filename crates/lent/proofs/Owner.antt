@@ -100,7 +100,7 @@ pub big-lit : {M : Type 1} {𝓤 : URA M} {H : Heap 𝓤} {A : Atoms 𝓤} {K : 
 big-lit {𝓤 = 𝓤} t {w} {n} z = record { go = λ Kt h. via 𝓤 (Kt (vint w n)) h (guardI 𝓤 (Holds w n) (Kt (vint w n)) z) }
 
 -- ---- its elements, side by side
-abbrev Elems : ℕ → ℕ → List Segment → Fml
+abbrev pub Elems : ℕ → ℕ → List Segment → Fml
 Elems n l xs = arr-parts (shares Seg) n .part fullShare xs l 0
 
 -- the array in the local at l
@@ -112,14 +112,14 @@ abbrev pub tabAt : ℕ → GName → List Segment → RefT (List Segment)
 tabAt l γ xs = record { ptr = (l, 0); name = γ; now = xs }
 
 module _ {M : Type 1} {𝓤 : URA M} {H : Heap 𝓤} {A : Atoms 𝓤} {W : Given 𝓤 H A} {Γ : List (Item 𝓤)} {G : Goal 𝓤 H} (n l : ℕ) (xs : List Segment) where
-  apart : Is (Array Seg n) xs (arr xs ∷ []) → Sq W (‵ (Elems n l xs) ∷ Γ) G → Sq W (‵ (Holding n l xs) ∷ Γ) G
+  pub apart : Is (Array Seg n) xs (arr xs ∷ []) → Sq W (‵ (Elems n l xs) ∷ Γ) G → Sq W (‵ (Holding n l xs) ∷ Γ) G
   unfolding partOf
   apart is go =
       use1 W (‵ (cellAt fullShare (Array Seg n .mir) (arr xs ∷ []) l 0)) (W .laws .at-raw fullShare (Arr-ty n) l 0 (arr xs)) $ owned ! (Array Seg n) (Is (Array Seg n)) (arr-makes 𝓤 H A W n) xs _ is $ move ! (1 ∷ 0 ∷ []) $ fjoin ! $
       fpack ! (List Val) (λ vs. fsep (cellAt fullShare (Array Seg n .mir) vs l 0) (Array Seg n .own xs vs)) (arr xs ∷ []) $
       use1 W (‵ (Elems n l xs)) (array-apart 𝓤 H A W Seg fullShare tt n xs l 0) $ go
 
-  whole : (Is (Array Seg n) xs (arr xs ∷ []) → Sq W (‵ (Holding n l xs) ∷ Γ) G) → Sq W (‵ (Elems n l xs) ∷ Γ) G
+  pub whole : (Is (Array Seg n) xs (arr xs ∷ []) → Sq W (‵ (Holding n l xs) ∷ Γ) G) → Sq W (‵ (Elems n l xs) ∷ Γ) G
   unfolding partOf
   whole go =
       use1 W (‵ (partAt (Array Seg n) fullShare xs l 0)) (array-whole 𝓤 H A W Seg fullShare n xs l 0) $ fpick ! (λ vs. fsplit ! $

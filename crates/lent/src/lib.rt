@@ -1,6 +1,6 @@
 // The segment table as a slice that the caller lends, 0 to 4,096 places: the opening, the questions, the chain, a segment alone, orientations.
 // Rattle walks no function over such a slice by itself. Each one here is thin and proved by hand (proofs/*/Proof.antt): it reads or stores an
-// element whole, and leaves the rest to covered functions on values. A way that is not taken is gone with a count of 0.
+// element whole, and leaves the rest to covered functions on values.
 ghost use mathlib.Core.Path.{_≡_};
 ghost use Prim.Native.Nat.{_≤_, _<_};
 ghost use lib.ListN.{length, set};
@@ -18,7 +18,7 @@ ghost use Rattle.chain.specs.Step.{stepFrom};
 ghost use Rattle.chain.specs.Walk.{follow, walkFrom};
 ghost use Rattle.spk.specs.Alone.{aloneAnswer};
 ghost use Rattle.spk.specs.Asking.{chained, backward, answerTo, asked};
-ghost use Rattle.spk.specs.Choosing.{forwardIn, lastReversed};
+ghost use Rattle.spk.specs.Choosing.{recall, forwardIn, lastReversed};
 ghost use Rattle.spk.specs.Questions.{hits};
 ghost use Rattle.spk.specs.Turning.{askedIn};
 ghost use Rattle.pck.specs.Finding.{bodyHits};
@@ -57,7 +57,7 @@ pub fn table_len(table: &[Segment]) -> usize
 }
 
 // Segment i of the first n, else the empty one.
-fn segment_or(table: &[Segment], n: usize, i: usize) -> Segment
+pub fn segment_or(table: &[Segment], n: usize, i: usize) -> Segment
     requires { ⌜ n ≤ length (now table) ⌝ }
     ensures { λ r. ⌜ r ≡ segOr (now (table .entry)) n i ⌝ }
 {
@@ -86,22 +86,32 @@ fn last_hit(table: &[Segment], n: usize, q: Question) -> Choice
     best
 }
 
+// The remembered segment, if it is one of the first n and serves the question.
+pub fn recall(table: &[Segment], n: usize, memory: Memory, q: Question) -> Choice
+    requires { ⌜ n ≤ length (now table) ⌝ }
+    ensures { λ r. ⌜ r ≡ recall (now (table .entry)) n memory q ⌝ }
+{
+    let i = spk::place_kept(memory, n);
+    let s = segment_or(table, n, i);
+    spk::recalled(q, s, i, n)
+}
+
 // The forward choice: the remembered segment, else the last in file order.
 fn choice(table: &[Segment], n: usize, memory: Memory, q: Question) -> Choice
     requires { ⌜ n ≤ length (now table) ⌝ }
     ensures { λ r. ⌜ r ≡ forwardIn (now (table .entry)) n memory q ⌝ }
 {
-    let i = spk::place_kept(memory, n);
-    let s = segment_or(table, n, i);
-    let kept = spk::recalled(q, s, i, n);
-    let left = table::left_of(kept, n);
-    let last = last_hit(table, left, q);
-    table::or_else(kept, last)
+    let c = recall(table, n, memory, q);
+    let i = table::place_in(c, n);
+    if i < n {
+        return c;
+    }
+    last_hit(table, n, q)
 }
 
 // ---- the chain
 
-// One step towards body 0: the scan of the table in file order.
+// One step towards body 0: the scan of the table in file order. Only a segment that leaves the body is read whole.
 fn step(kernel: &[u8], table: &[Segment], n: usize, leg: Leg) -> Step
     requires { ⌜ (n ≤ length (now table)) × (n ≤ lentLimit) ⌝ }
     ensures { λ r. ⌜ r ≡ stepFrom (evaluated Spk (now (kernel .entry))) (now (table .entry)) n leg ⌝ }
@@ -109,8 +119,12 @@ fn step(kernel: &[u8], table: &[Segment], n: usize, leg: Leg) -> Step
     let mut kept = Step::Blocked;
     let mut i: usize = 0;
     while i < n {
-        let s = segment_at(table, i);
-        kept = chain::look(kernel, leg, kept, s, i);
+        let r = segment_at(table, i);
+        if chain::leaves(r, leg) {
+            let s = segment_at(table, i);
+            let met = chain::look(kernel, leg, kept, s, i);
+            kept = met;
+        }
         let next = kept.place_after(i, n);
         i = next;
     }
@@ -132,13 +146,16 @@ fn walk(kernel: &[u8], table: &[Segment], n: usize, at: Next, left: u32) -> Eval
     walk(kernel, table, n, next, less)
 }
 
-// The chain: target's state to body 0, then center's, subtracted.
+// The chain: target's state to body 0, then center's, subtracted. A refusal on the target's walk is the chain's.
 fn chained(kernel: &[u8], table: &[Segment], n: usize, q: Question) -> Evaluated
     requires { ⌜ (n ≤ length (now table)) × (n ≤ lentLimit) ⌝ }
     ensures { λ r. ⌜ r ≡ chained (evaluated Spk (now (kernel .entry))) (now (table .entry)) n q ⌝ }
 {
     let a = spk::start_of(q);
     let x = walk(kernel, table, n, a, Leg::STEPS);
+    if spk::is_failed(x) {
+        return x;
+    }
     let back = q.swapped();
     let b = spk::start_of(back);
     let y = walk(kernel, table, n, b, Leg::STEPS);
@@ -155,10 +172,12 @@ fn backward(kernel: &[u8], table: &[Segment], n: usize, q: Question) -> Answer
     let back = q.swapped();
     let c = last_hit(table, n, back);
     let i = table::place_in(c, n);
-    let s = segment_or(table, n, i);
-    let left = table::left_of(c, n);
-    let e = chained(kernel, table, left, q);
-    spk::back_by(kernel, c, s, q, e)
+    if i < n {
+        let s = segment_at(table, i);
+        return spk::reversed(kernel, i, s, q);
+    }
+    let e = chained(kernel, table, n, q);
+    spk::by_chain(e)
 }
 
 // A question with a memory, over the first n of the lent segments.
@@ -166,13 +185,19 @@ pub fn state(kernel: &[u8], table: &[Segment], n: usize, memory: Memory, q: Ques
     ensures { λ r. ⌜ r ≡ asked (limitOf (length (now (table .entry)))) (evaluated Spk (now (kernel .entry))) (now (table .entry)) n memory q ⌝ }
 {
     let places = table_len(table);
-    let m = spk::looked(places, n, q);
-    let c = choice(table, m, memory, q);
-    let i = table::place_in(c, m);
-    let s = segment_or(table, m, i);
-    let left = table::left_of(c, m);
-    let a = backward(kernel, table, left, q);
-    spk::settle(kernel, places, n, memory, q, c, s, a)
+    if spk::is_early(places, n, q) {
+        return spk::early(places, n, memory, q);
+    }
+    let c = choice(table, n, memory, q);
+    let i = table::place_in(c, n);
+    if i < n {
+        let r = segment_at(table, i);
+        let kept = memory.after(i, r);
+        let s = segment_at(table, i);
+        return spk::forward(kernel, kept, i, s, q);
+    }
+    let a = backward(kernel, table, n, q);
+    spk::unchanged(a, memory)
 }
 
 // A question in a frame.
@@ -216,7 +241,7 @@ pub fn alone(kernel: &[u8], table: &[Segment], n: usize, number: usize, et: f64)
 // ---- the opening: all is judged from the kernel and the number of places, and then written
 
 // Place i, stored whole.
-fn put_segment(table: &mut [Segment], i: usize, s: Segment)
+pub fn put_segment(table: &mut [Segment], i: usize, s: Segment)
     requires { ⌜ i < length (now table) ⌝ }
     ensures { λ _. ⌜ now (table .exit) ≡ set (now (table .entry)) i s ⌝ }
 {
@@ -224,7 +249,7 @@ fn put_segment(table: &mut [Segment], i: usize, s: Segment)
 }
 
 // Fills the first n places with the segments from a cursor on, and leaves the others.
-fn fill(table: &mut [Segment], kernel: &[u8], family: Family, start: Cursor, n: usize)
+pub fn fill(table: &mut [Segment], kernel: &[u8], family: Family, start: Cursor, n: usize)
     requires { ⌜ (n ≤ length (now table)) × Ready (now kernel) start n ⌝ }
     ensures { λ _. ⌜ now (table .exit) ≡ filled family (now (kernel .entry)) start (now (table .entry)) n ⌝ }
 {
@@ -259,7 +284,7 @@ fn has_rival(table: &[Segment], n: usize, a: Segment, i: usize) -> bool
 }
 
 // Marks the first n segments: each that no other of its pair among them overlaps. The other places stay.
-fn mark_all(table: &mut [Segment], n: usize)
+pub fn mark_all(table: &mut [Segment], n: usize)
     requires { ⌜ n ≤ length (now table) ⌝ }
     ensures { λ _. ⌜ now (table .exit) ≡ markedTo (now (table .entry)) n n ⌝ }
 {
@@ -319,9 +344,14 @@ pub fn orient(kernel: &[u8], table: &[Segment], n: usize, q: pck::Question) -> p
     ensures { λ r. ⌜ r ≡ oriented (limitOf (length (now (table .entry)))) (now (kernel .entry)) (now (table .entry)) n q ⌝ }
 {
     let places = table_len(table);
-    let m = pck::body_looked(places, n, q);
-    let c = last_body(table, m, q);
-    let i = table::place_in(c, m);
-    let s = segment_or(table, m, i);
-    pck::turn_by(kernel, places, n, q, c, s)
+    if pck::is_early(places, n, q) {
+        return pck::early(places, n);
+    }
+    let c = last_body(table, n, q);
+    let i = table::place_in(c, n);
+    if i < n {
+        let s = segment_at(table, i);
+        return pck::answered_by(kernel, i, s, q);
+    }
+    pck::uncovered(q)
 }

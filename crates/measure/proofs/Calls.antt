@@ -44,7 +44,7 @@ use Rattle.lent.proofs.Rows.{Que, que, que-tells, Mem, mmy, Ask, ask, ask-makes
 use Rattle.lent.proofs.Calls.{ShrOwn, calls-told, calls-held, passes-shr, passes-three}
 use Rattle.frame.specs.declared.State.{State}
 use Rattle.measure.specs.declared.Sums.{Sums}
-use Rattle.measure.proofs.Rows.{Sta, sta, sta-tells, sta-makes, Rn, rn, rn-tells, rn-makes}
+use Rattle.measure.proofs.Rows.{Sta, sta, sta-tells, Rn, rn, rn-tells, rn-makes}
 use Rattle.lent.proofs.Rows.{mmy-tells, bod-tells, ori-makes}
 use Rattle.daf.specs.declared.Family.the-variants.{Pck}
 use Prim.Native.Nat.{_*_}
@@ -64,10 +64,6 @@ use Rattle.measure.proofs.with_angles as m-with-angles
 use Rattle.measure.proofs.with_angles.Symbol.{name as #with-angles}
 use Rattle.measure.proofs.next_pass as m-next-pass
 use Rattle.measure.proofs.next_pass.Symbol.{name as #next-pass}
-use Rattle.measure.proofs.next_oriented as m-next-oriented
-use Rattle.measure.proofs.next_oriented.Symbol.{name as #next-oriented}
-use Rattle.measure.proofs.nothing_yet as m-nothing-yet
-use Rattle.measure.proofs.nothing_yet.Symbol.{name as #nothing-yet}
 use Rattle.measure.proofs.spk_family as m-spk-family
 use Rattle.measure.proofs.spk_family.Symbol.{name as #spk-family}
 use Rattle.measure.proofs.pck_family as m-pck-family
@@ -78,6 +74,10 @@ use Rattle.measure.proofs.ask_lent as m-ask-lent
 use Rattle.measure.proofs.ask_lent.Symbol.{name as #ask-lent}
 use Rattle.measure.proofs.orient_lent as m-orient-lent
 use Rattle.measure.proofs.orient_lent.Symbol.{name as #orient-lent}
+use denote.Builtin.{u16}
+use Rattle.indexed.proofs.Four.{passes-four}
+use Rattle.measure.proofs.ask_indexed as m-ask-indexed
+use Rattle.measure.proofs.ask_indexed.Symbol.{name as #ask-indexed}
 
 module _ {M : Type 1} (𝓤 : URA M) (H : Heap 𝓤) (A : Atoms 𝓤) (mem : Memory → SProp 𝓤) (run : Routine → Fun 𝓤) where
   -- the contracts
@@ -105,12 +105,6 @@ module _ {M : Type 1} (𝓤 : URA M) (H : Heap 𝓤) (A : Atoms 𝓤) (mem : Mem
   abbrev pub the-next-pass : Contract 𝓤
   the-next-pass = tripleOf 𝓤 H A m-next-pass.signature (m-next-pass.spec 𝓤 H A mem run)
 
-  abbrev pub the-next-oriented : Contract 𝓤
-  the-next-oriented = tripleOf 𝓤 H A m-next-oriented.signature (m-next-oriented.spec 𝓤 H A mem run)
-
-  abbrev pub the-nothing-yet : Contract 𝓤
-  the-nothing-yet = tripleOf 𝓤 H A m-nothing-yet.signature (m-nothing-yet.spec 𝓤 H A mem run)
-
   abbrev pub the-spk-family : Contract 𝓤
   the-spk-family = tripleOf 𝓤 H A m-spk-family.signature (m-spk-family.spec 𝓤 H A mem run)
 
@@ -125,6 +119,9 @@ module _ {M : Type 1} (𝓤 : URA M) (H : Heap 𝓤) (A : Atoms 𝓤) (mem : Mem
 
   abbrev pub the-orient-lent : Contract 𝓤
   the-orient-lent = tripleOf 𝓤 H A m-orient-lent.signature (m-orient-lent.spec 𝓤 H A mem run)
+
+  abbrev pub the-ask-indexed : Contract 𝓤
+  the-ask-indexed = tripleOf 𝓤 H A m-ask-indexed.signature (m-ask-indexed.spec 𝓤 H A mem run)
 
   -- ---- begin
   abbrev pub to-begin : the-begin .Ghost
@@ -266,95 +263,50 @@ module _ {M : Type 1} (𝓤 : URA M) (H : Heap 𝓤) (A : Atoms 𝓤) (mem : Mem
             use0 W (raw (the-with-answer .pre to-with-answer)) (asks-with-answer is-g is-x is-b) $ calls-held fm the-with-answer to-with-answer (known to-with-answer) Rn rn (rn-tells) (‵ ftrue) (λ r. ensured 𝓤 H A m-with-answer.ended (m-with-answer.clauses 𝓤 H A mem run) tt (g, (x, (b, tt))) tt r) (λ u. id⊢ 𝓤 _) Held-with-answer said-with-answer os (λ r e is. drop ! $ go r e is)
 
   -- ---- with-angles
-  module _ (g : State) (x : Oriented) where
+  module _ (g : Sums) (x : Oriented) where
     abbrev pub to-with-angles : the-with-angles .Ghost
-    to-with-angles = ((tt, tt, tt, (g, (x, tt)), (sta g ∷ [], (ori x ∷ [], tt))), tt)
+    to-with-angles = ((tt, tt, tt, (g, (x, tt)), (rn g ∷ [], (ori x ∷ [], tt))), tt)
 
-    abbrev pub Held-with-angles : State → Type 0
+    abbrev pub Held-with-angles : Sums → Type 0
     Held-with-angles r = Unit {0}
 
     module _ (W : Given 𝓤 H A) where
-      asks-with-angles : Is Sta g (sta g ∷ []) → Is Ori x (ori x ∷ []) → ent 𝓤 (emp 𝓤) (the-with-angles .pre to-with-angles)
-      asks-with-angles is-g is-x = qed W [] ∵ nothing ! $ owned ! Ori (Is Ori) (ori-makes 𝓤 H A W) x _ is-x $ fjoin ! $ owned ! Sta (Is Sta) (sta-makes 𝓤 H A W) g _ is-g $ fjoin ! $ nothing ! $ join ! $ frame ! $ done !
+      asks-with-angles : Is Rn g (rn g ∷ []) → Is Ori x (ori x ∷ []) → ent 𝓤 (emp 𝓤) (the-with-angles .pre to-with-angles)
+      asks-with-angles is-g is-x = qed W [] ∵ nothing ! $ owned ! Ori (Is Ori) (ori-makes 𝓤 H A W) x _ is-x $ fjoin ! $ owned ! Rn (Is Rn) (rn-makes 𝓤 H A W) g _ is-g $ fjoin ! $ nothing ! $ join ! $ frame ! $ done !
 
-      said-with-angles : (r : State) → ent 𝓤 (ensured 𝓤 H A m-with-angles.ended (m-with-angles.clauses 𝓤 H A mem run) tt (g, (x, tt)) tt r) (fact 𝓤 (Held-with-angles r))
+      said-with-angles : (r : Sums) → ent 𝓤 (ensured 𝓤 H A m-with-angles.ended (m-with-angles.clauses 𝓤 H A mem run) tt (g, (x, tt)) tt r) (fact 𝓤 (Held-with-angles r))
       said-with-angles r = factI 𝓤 (Unit {0}) _ tt
 
       module _ {C : Calls 𝓤 H} {Λ : Loops 𝓤 H} {E : Env 𝓤 H} {Γ : List (Item 𝓤)} {xs : List Opd} {d : Place} {rest : Body} {Q : Post 𝓤 H} where
-        pub calls-with-angles : FmC 𝓤 H (W .laws) C → Triple 𝓤 (C #with-angles) the-with-angles → Is Sta g (sta g ∷ []) → Is Ori x (ori x ∷ [])
-            → Opds (Go {0}) W (raw (the-with-angles .pre to-with-angles) ∷ Γ) E xs (sta g ∷ ori x ∷ [])
-            → ((r : State) → Held-with-angles r → Is Sta r (sta r ∷ []) → Sq W Γ (lands C Λ E d (sta r) rest Q))
+        pub calls-with-angles : FmC 𝓤 H (W .laws) C → Triple 𝓤 (C #with-angles) the-with-angles → Is Rn g (rn g ∷ []) → Is Ori x (ori x ∷ [])
+            → Opds (Go {0}) W (raw (the-with-angles .pre to-with-angles) ∷ Γ) E xs (rn g ∷ ori x ∷ [])
+            → ((r : Sums) → Held-with-angles r → Is Rn r (rn r ∷ []) → Sq W Γ (lands C Λ E d (rn r) rest Q))
             → Sq W Γ (runs C Λ E (seq (call #with-angles xs d) rest) Q)
         calls-with-angles fm known is-g is-x os go =
-            use0 W (raw (the-with-angles .pre to-with-angles)) (asks-with-angles is-g is-x) $ calls-held fm the-with-angles to-with-angles (known to-with-angles) Sta sta (sta-tells) (‵ ftrue) (λ r. ensured 𝓤 H A m-with-angles.ended (m-with-angles.clauses 𝓤 H A mem run) tt (g, (x, tt)) tt r) (λ u. id⊢ 𝓤 _) Held-with-angles said-with-angles os (λ r e is. drop ! $ go r e is)
+            use0 W (raw (the-with-angles .pre to-with-angles)) (asks-with-angles is-g is-x) $ calls-held fm the-with-angles to-with-angles (known to-with-angles) Rn rn (rn-tells) (‵ ftrue) (λ r. ensured 𝓤 H A m-with-angles.ended (m-with-angles.clauses 𝓤 H A mem run) tt (g, (x, tt)) tt r) (λ u. id⊢ 𝓤 _) Held-with-angles said-with-angles os (λ r e is. drop ! $ go r e is)
 
   -- ---- next-pass
-  module _ (i : ℕ) (m : ℕ) (x : Asked) where
+  module _ (i : ℕ) (m : ℕ) where
     abbrev pub to-next-pass : the-next-pass .Ghost
-    to-next-pass = ((tt, tt, tt, (i, (m, (x, tt))), (vint w64 i ∷ [], (vint w64 m ∷ [], (ask x ∷ [], tt)))), tt)
+    to-next-pass = ((tt, tt, tt, (i, (m, tt)), (vint w64 i ∷ [], (vint w64 m ∷ [], tt))), tt)
 
     abbrev pub Held-next-pass : ℕ → Type 0
     Held-next-pass r = (i < r) × (r ≤ m)
 
     module _ (W : Given 𝓤 H A) where
-      asks-next-pass : i < m → Is usize i (vint w64 i ∷ []) → Is usize m (vint w64 m ∷ []) → Is Ask x (ask x ∷ []) → ent 𝓤 (emp 𝓤) (the-next-pass .pre to-next-pass)
-      asks-next-pass within is-i is-m is-x = qed W [] ∵ says ! within $ nothing ! $ frame ! $ nothing ! $ owned ! Ask (Is Ask) (ask-makes 𝓤 H A W) x _ is-x $ fjoin ! $ owned ! usize (Is usize) (uint-makes 𝓤 H A W w64) m _ is-m $ fjoin ! $ owned ! usize (Is usize) (uint-makes 𝓤 H A W w64) i _ is-i $ fjoin ! $ done !
+      asks-next-pass : i < m → Is usize i (vint w64 i ∷ []) → Is usize m (vint w64 m ∷ []) → ent 𝓤 (emp 𝓤) (the-next-pass .pre to-next-pass)
+      asks-next-pass within is-i is-m = qed W [] ∵ says ! within $ nothing ! $ frame ! $ nothing ! $ owned ! usize (Is usize) (uint-makes 𝓤 H A W w64) m _ is-m $ fjoin ! $ owned ! usize (Is usize) (uint-makes 𝓤 H A W w64) i _ is-i $ fjoin ! $ done !
 
-      said-next-pass : (r : ℕ) → ent 𝓤 (ensured 𝓤 H A m-next-pass.ended (m-next-pass.clauses 𝓤 H A mem run) tt (i, (m, (x, tt))) tt r) (fact 𝓤 (Held-next-pass r))
-      said-next-pass r = exE 𝓤 _ (λ ws. snd∗ 𝓤 (sem 𝓤 H A (lasts m-next-pass.ended tt (i, (m, (x, tt))) ws)) (fact 𝓤 (Held-next-pass r)))
+      said-next-pass : (r : ℕ) → ent 𝓤 (ensured 𝓤 H A m-next-pass.ended (m-next-pass.clauses 𝓤 H A mem run) tt (i, (m, tt)) tt r) (fact 𝓤 (Held-next-pass r))
+      said-next-pass r = exE 𝓤 _ (λ ws. snd∗ 𝓤 (sem 𝓤 H A (lasts m-next-pass.ended tt (i, (m, tt)) ws)) (fact 𝓤 (Held-next-pass r)))
 
       module _ {C : Calls 𝓤 H} {Λ : Loops 𝓤 H} {E : Env 𝓤 H} {Γ : List (Item 𝓤)} {xs : List Opd} {d : Place} {rest : Body} {Q : Post 𝓤 H} where
-        pub calls-next-pass : FmC 𝓤 H (W .laws) C → Triple 𝓤 (C #next-pass) the-next-pass → i < m → Is usize i (vint w64 i ∷ []) → Is usize m (vint w64 m ∷ []) → Is Ask x (ask x ∷ [])
-            → Opds (Go {0}) W (raw (the-next-pass .pre to-next-pass) ∷ Γ) E xs (vint w64 i ∷ vint w64 m ∷ ask x ∷ [])
+        pub calls-next-pass : FmC 𝓤 H (W .laws) C → Triple 𝓤 (C #next-pass) the-next-pass → i < m → Is usize i (vint w64 i ∷ []) → Is usize m (vint w64 m ∷ [])
+            → Opds (Go {0}) W (raw (the-next-pass .pre to-next-pass) ∷ Γ) E xs (vint w64 i ∷ vint w64 m ∷ [])
             → ((r : ℕ) → Held-next-pass r → Is usize r (vint w64 r ∷ []) → Sq W Γ (lands C Λ E d (vint w64 r) rest Q))
             → Sq W Γ (runs C Λ E (seq (call #next-pass xs d) rest) Q)
-        calls-next-pass fm known within is-i is-m is-x os go =
-            use0 W (raw (the-next-pass .pre to-next-pass)) (asks-next-pass within is-i is-m is-x) $ calls-held fm the-next-pass to-next-pass (known to-next-pass) usize (vint w64) (uint-tells w64) (‵ ftrue) (λ r. ensured 𝓤 H A m-next-pass.ended (m-next-pass.clauses 𝓤 H A mem run) tt (i, (m, (x, tt))) tt r) (λ u. id⊢ 𝓤 _) Held-next-pass said-next-pass os (λ r e is. drop ! $ go r e is)
-
-  -- ---- next-oriented
-  module _ (i : ℕ) (m : ℕ) (x : Oriented) where
-    abbrev pub to-next-oriented : the-next-oriented .Ghost
-    to-next-oriented = ((tt, tt, tt, (i, (m, (x, tt))), (vint w64 i ∷ [], (vint w64 m ∷ [], (ori x ∷ [], tt)))), tt)
-
-    abbrev pub Held-next-oriented : ℕ → Type 0
-    Held-next-oriented r = (i < r) × (r ≤ m)
-
-    module _ (W : Given 𝓤 H A) where
-      asks-next-oriented : i < m → Is usize i (vint w64 i ∷ []) → Is usize m (vint w64 m ∷ []) → Is Ori x (ori x ∷ []) → ent 𝓤 (emp 𝓤) (the-next-oriented .pre to-next-oriented)
-      asks-next-oriented within is-i is-m is-x = qed W [] ∵ says ! within $ nothing ! $ frame ! $ nothing ! $ owned ! Ori (Is Ori) (ori-makes 𝓤 H A W) x _ is-x $ fjoin ! $ owned ! usize (Is usize) (uint-makes 𝓤 H A W w64) m _ is-m $ fjoin ! $ owned ! usize (Is usize) (uint-makes 𝓤 H A W w64) i _ is-i $ fjoin ! $ done !
-
-      said-next-oriented : (r : ℕ) → ent 𝓤 (ensured 𝓤 H A m-next-oriented.ended (m-next-oriented.clauses 𝓤 H A mem run) tt (i, (m, (x, tt))) tt r) (fact 𝓤 (Held-next-oriented r))
-      said-next-oriented r = exE 𝓤 _ (λ ws. snd∗ 𝓤 (sem 𝓤 H A (lasts m-next-oriented.ended tt (i, (m, (x, tt))) ws)) (fact 𝓤 (Held-next-oriented r)))
-
-      module _ {C : Calls 𝓤 H} {Λ : Loops 𝓤 H} {E : Env 𝓤 H} {Γ : List (Item 𝓤)} {xs : List Opd} {d : Place} {rest : Body} {Q : Post 𝓤 H} where
-        pub calls-next-oriented : FmC 𝓤 H (W .laws) C → Triple 𝓤 (C #next-oriented) the-next-oriented → i < m → Is usize i (vint w64 i ∷ []) → Is usize m (vint w64 m ∷ []) → Is Ori x (ori x ∷ [])
-            → Opds (Go {0}) W (raw (the-next-oriented .pre to-next-oriented) ∷ Γ) E xs (vint w64 i ∷ vint w64 m ∷ ori x ∷ [])
-            → ((r : ℕ) → Held-next-oriented r → Is usize r (vint w64 r ∷ []) → Sq W Γ (lands C Λ E d (vint w64 r) rest Q))
-            → Sq W Γ (runs C Λ E (seq (call #next-oriented xs d) rest) Q)
-        calls-next-oriented fm known within is-i is-m is-x os go =
-            use0 W (raw (the-next-oriented .pre to-next-oriented)) (asks-next-oriented within is-i is-m is-x) $ calls-held fm the-next-oriented to-next-oriented (known to-next-oriented) usize (vint w64) (uint-tells w64) (‵ ftrue) (λ r. ensured 𝓤 H A m-next-oriented.ended (m-next-oriented.clauses 𝓤 H A mem run) tt (i, (m, (x, tt))) tt r) (λ u. id⊢ 𝓤 _) Held-next-oriented said-next-oriented os (λ r e is. drop ! $ go r e is)
-
-  -- ---- nothing-yet
-  abbrev pub to-nothing-yet : the-nothing-yet .Ghost
-  to-nothing-yet = ((tt, tt, tt, tt, tt), tt)
-
-  abbrev pub Held-nothing-yet : State → Type 0
-  Held-nothing-yet r = Unit {0}
-
-  module _ (W : Given 𝓤 H A) where
-    asks-nothing-yet : ent 𝓤 (emp 𝓤) (the-nothing-yet .pre to-nothing-yet)
-    asks-nothing-yet = qed W [] ∵ nothing ! $ nothing ! $ join ! $ frame ! $ done !
-
-    said-nothing-yet : (r : State) → ent 𝓤 (ensured 𝓤 H A m-nothing-yet.ended (m-nothing-yet.clauses 𝓤 H A mem run) tt tt tt r) (fact 𝓤 (Held-nothing-yet r))
-    said-nothing-yet r = factI 𝓤 (Unit {0}) _ tt
-
-    module _ {C : Calls 𝓤 H} {Λ : Loops 𝓤 H} {E : Env 𝓤 H} {Γ : List (Item 𝓤)} {xs : List Opd} {d : Place} {rest : Body} {Q : Post 𝓤 H} where
-      pub calls-nothing-yet : FmC 𝓤 H (W .laws) C → Triple 𝓤 (C #nothing-yet) the-nothing-yet
-          → Opds (Go {0}) W (raw (the-nothing-yet .pre to-nothing-yet) ∷ Γ) E xs ([])
-          → ((r : State) → Held-nothing-yet r → Is Sta r (sta r ∷ []) → Sq W Γ (lands C Λ E d (sta r) rest Q))
-          → Sq W Γ (runs C Λ E (seq (call #nothing-yet xs d) rest) Q)
-      calls-nothing-yet fm known os go =
-          use0 W (raw (the-nothing-yet .pre to-nothing-yet)) asks-nothing-yet $ calls-held fm the-nothing-yet to-nothing-yet (known to-nothing-yet) Sta sta (sta-tells) (‵ ftrue) (λ r. ensured 𝓤 H A m-nothing-yet.ended (m-nothing-yet.clauses 𝓤 H A mem run) tt tt tt r) (λ u. id⊢ 𝓤 _) Held-nothing-yet said-nothing-yet os (λ r e is. drop ! $ go r e is)
+        calls-next-pass fm known within is-i is-m os go =
+            use0 W (raw (the-next-pass .pre to-next-pass)) (asks-next-pass within is-i is-m) $ calls-held fm the-next-pass to-next-pass (known to-next-pass) usize (vint w64) (uint-tells w64) (‵ ftrue) (λ r. ensured 𝓤 H A m-next-pass.ended (m-next-pass.clauses 𝓤 H A mem run) tt (i, (m, tt)) tt r) (λ u. id⊢ 𝓤 _) Held-next-pass said-next-pass os (λ r e is. drop ! $ go r e is)
 
   -- ---- spk-family
   abbrev pub to-spk-family : the-spk-family .Ghost
@@ -471,3 +423,27 @@ module _ {M : Type 1} (𝓤 : URA M) (H : Heap 𝓤) (A : Atoms 𝓤) (mem : Mem
         calls-orient-lent fm known within is-n is-p is-m os go =
             passes-three u8 Seg u8 κ κ′ κ″ q q′ q″ k t a (the-orient-lent .pre to-orient-lent) (asks-orient-lent within is-n is-p is-m)
             (calls-held fm the-orient-lent to-orient-lent (known to-orient-lent) Sta sta (sta-tells) (‵ (flft κ q) ⊛ ‵ (flft κ′ q′) ⊛ ‵ (flft κ″ q″) ⊛ ‵ ftrue) (λ r. ensured 𝓤 H A m-orient-lent.ended (m-orient-lent.clauses 𝓤 H A mem run) (κ, (κ′, (κ″, tt))) (k, (t, (a, (n, (p, (m, tt)))))) tt r) (λ u. id⊢ 𝓤 _) Held-orient-lent said-orient-lent os (λ r e is. split ! $ move ! (1 ∷ []) $ split ! $ move ! (1 ∷ []) $ split ! $ move ! (1 ∷ []) $ drop ! $ move ! (5 ∷ 2 ∷ 4 ∷ 1 ∷ 3 ∷ 0 ∷ []) $ go r e is))
+
+  -- ---- ask-indexed
+  module _ (κ κ′ κ‴ κ″ : Lft) (q q′ q‴ q″ : Share) (k : RefT (List ℕ)) (t : RefT (List Segment)) (x : RefT (List ℕ)) (a : RefT (List ℕ)) (n : ℕ) (p : ℕ) (b : Bool) (m : ℕ) where
+    abbrev pub to-ask-indexed : the-ask-indexed .Ghost
+    to-ask-indexed = (((κ, (κ′, (κ‴, (κ″, tt)))), (q, (q′, (q‴, (q″, tt)))), tt, (k, (t, (x, (a, (n, (p, (b, (m, tt)))))))), (sliceVal (k .ptr) (length (k .now)) ∷ [], (sliceVal (t .ptr) (length (t .now)) ∷ [], (sliceVal (x .ptr) (length (x .now)) ∷ [], (sliceVal (a .ptr) (length (a .now)) ∷ [], (vint w64 n ∷ [], (vint w64 p ∷ [], (vbool b ∷ [], (vint w64 m ∷ [], tt))))))))), tt)
+
+    abbrev pub Held-ask-indexed : State → Type 0
+    Held-ask-indexed r = Unit {0}
+
+    module _ (W : Given 𝓤 H A) where
+      asks-ask-indexed : ((0 < p) × (18 * p ≤ length (a .now))) → Is usize n (vint w64 n ∷ []) → Is usize p (vint w64 p ∷ []) → Is bool b (vbool b ∷ []) → Is usize m (vint w64 m ∷ []) → ent 𝓤 (⋆ 𝓤 H A ((((‵ (flft κ q) ⊛ ‵ (flft κ′ q′) ⊛ ‵ (flft κ‴ q‴) ⊛ ‵ (flft κ″ q″) ⊛ ‵ ftrue) ⊛ ‵ (ShrOwn u8 κ k)) ⊛ ‵ (ShrOwn Seg κ′ t)) ∷ ‵ (ShrOwn u16 κ‴ x) ∷ ‵ (ShrOwn u8 κ″ a) ∷ [])) (the-ask-indexed .pre to-ask-indexed)
+      asks-ask-indexed within is-n is-p is-b is-m = qed W ((((‵ (flft κ q) ⊛ ‵ (flft κ′ q′) ⊛ ‵ (flft κ‴ q‴) ⊛ ‵ (flft κ″ q″) ⊛ ‵ ftrue) ⊛ ‵ (ShrOwn u8 κ k)) ⊛ ‵ (ShrOwn Seg κ′ t)) ∷ ‵ (ShrOwn u16 κ‴ x) ∷ ‵ (ShrOwn u8 κ″ a) ∷ []) ∵ says ! within $ split ! $ split ! $ frame ! $ nothing ! $ owned ! usize (Is usize) (uint-makes 𝓤 H A W w64) m _ is-m $ fjoin ! $ owned ! bool (Is bool) (bool-makes 𝓤 H A W) b _ is-b $ fjoin ! $ owned ! usize (Is usize) (uint-makes 𝓤 H A W w64) p _ is-p $ fjoin ! $ owned ! usize (Is usize) (uint-makes 𝓤 H A W w64) n _ is-n $ fjoin ! $ move ! (4 ∷ 0 ∷ []) $ fjoin ! $ move ! (3 ∷ 0 ∷ []) $ fjoin ! $ move ! (2 ∷ 0 ∷ []) $ fjoin ! $ move ! (1 ∷ 0 ∷ []) $ fjoin ! $ done !
+
+      said-ask-indexed : (r : State) → ent 𝓤 (ensured 𝓤 H A m-ask-indexed.ended (m-ask-indexed.clauses 𝓤 H A mem run) (κ, (κ′, (κ‴, (κ″, tt)))) (k, (t, (x, (a, (n, (p, (b, (m, tt)))))))) tt r) (fact 𝓤 (Held-ask-indexed r))
+      said-ask-indexed r = factI 𝓤 (Unit {0}) _ tt
+
+      module _ {C : Calls 𝓤 H} {Λ : Loops 𝓤 H} {E : Env 𝓤 H} {Γ : List (Item 𝓤)} {xs : List Opd} {d : Place} {rest : Body} {Q : Post 𝓤 H} where
+        pub calls-ask-indexed : FmC 𝓤 H (W .laws) C → Triple 𝓤 (C #ask-indexed) the-ask-indexed → ((0 < p) × (18 * p ≤ length (a .now))) → Is usize n (vint w64 n ∷ []) → Is usize p (vint w64 p ∷ []) → Is bool b (vbool b ∷ []) → Is usize m (vint w64 m ∷ [])
+            → Opds (Go {0}) W (raw (the-ask-indexed .pre to-ask-indexed) ∷ ‵ (ShrOwn u8 κ″ a) ∷ ‵ (ShrOwn u16 κ‴ x) ∷ ‵ (ShrOwn Seg κ′ t) ∷ ‵ (ShrOwn u8 κ k) ∷ Γ) E xs (sliceVal (k .ptr) (length (k .now)) ∷ sliceVal (t .ptr) (length (t .now)) ∷ sliceVal (x .ptr) (length (x .now)) ∷ sliceVal (a .ptr) (length (a .now)) ∷ vint w64 n ∷ vint w64 p ∷ vbool b ∷ vint w64 m ∷ [])
+            → ((r : State) → Held-ask-indexed r → Is Sta r (sta r ∷ []) → Sq W (‵ (ShrOwn u8 κ k) ∷ ‵ (flft κ q) ∷ ‵ (ShrOwn Seg κ′ t) ∷ ‵ (flft κ′ q′) ∷ ‵ (ShrOwn u16 κ‴ x) ∷ ‵ (flft κ‴ q‴) ∷ ‵ (ShrOwn u8 κ″ a) ∷ ‵ (flft κ″ q″) ∷ Γ) (lands C Λ E d (sta r) rest Q))
+            → Sq W (‵ (ShrOwn u8 κ k) ∷ ‵ (flft κ q) ∷ ‵ (ShrOwn Seg κ′ t) ∷ ‵ (flft κ′ q′) ∷ ‵ (ShrOwn u16 κ‴ x) ∷ ‵ (flft κ‴ q‴) ∷ ‵ (ShrOwn u8 κ″ a) ∷ ‵ (flft κ″ q″) ∷ Γ) (runs C Λ E (seq (call #ask-indexed xs d) rest) Q)
+        calls-ask-indexed fm known within is-n is-p is-b is-m os go =
+            passes-four u8 Seg u16 u8 κ κ′ κ‴ κ″ q q′ q‴ q″ k t x a (the-ask-indexed .pre to-ask-indexed) (asks-ask-indexed within is-n is-p is-b is-m)
+            (calls-held fm the-ask-indexed to-ask-indexed (known to-ask-indexed) Sta sta (sta-tells) (‵ (flft κ q) ⊛ ‵ (flft κ′ q′) ⊛ ‵ (flft κ‴ q‴) ⊛ ‵ (flft κ″ q″) ⊛ ‵ ftrue) (λ r. ensured 𝓤 H A m-ask-indexed.ended (m-ask-indexed.clauses 𝓤 H A mem run) (κ, (κ′, (κ‴, (κ″, tt)))) (k, (t, (x, (a, (n, (p, (b, (m, tt)))))))) tt r) (λ u. id⊢ 𝓤 _) Held-ask-indexed said-ask-indexed os (λ r e is. split ! $ move ! (1 ∷ []) $ split ! $ move ! (1 ∷ []) $ split ! $ move ! (1 ∷ []) $ split ! $ move ! (1 ∷ []) $ drop ! $ move ! (7 ∷ 3 ∷ 6 ∷ 2 ∷ 5 ∷ 1 ∷ 4 ∷ 0 ∷ []) $ go r e is))

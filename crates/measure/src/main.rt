@@ -1,7 +1,8 @@
 // measure MODE KERNEL QUESTIONS PASSES: our side of bench/, a loop to count instructions in. Each pass takes the next question, the first
 // again after the last. MODE: `remember` lets the memory go from question to question, `forget` asks each with none; `orient` asks a PCK
-// kernel; `open` opens the kernel and puts it the first question; these with a table of 4,096 places that is lent, `by-remember`, `by-forget`,
-// `by-orient` and `by-open` (which asks nothing) with the table by value; `add` takes KERNEL for a usage file and adds it up once a pass; `nothing` only goes through the questions. It
+// kernel; `open` opens the kernel and puts it the first question; these with a table of 4,096 places that is lent; `indexed-remember` and
+// `indexed-forget` through its index too; `by-remember`, `by-forget`, `by-orient` and `by-open` (which asks nothing) with the table by value; `add`
+// takes KERNEL for a usage file and adds it up once a pass; `nothing` only goes through the questions. It
 // writes the sum of the answers, so that each has to be worked out, and ends at the first refusal. No contract can speak of what is written.
 ghost use mathlib.Core.Path.{_≡_};
 ghost use Prim.Native.Nat.{_+_, _*_, _≤_, _<_};
@@ -15,11 +16,16 @@ use frame::State;
 use opening::Outcome;
 use opening::Plan;
 use pck::Oriented;
+use refusal::Refusal;
 use segment::Segment;
+use spk::Answer;
 use spk::Asked;
 use spk::Memory;
 use spk::Way;
 use table::Table;
+
+// The bytes of a kernel that are read: room for 4,096 segments.
+const ROOM: usize = 200000;
 
 // Question i of a file of 18-byte records.
 fn spk_question(asked: &[u8], i: usize) -> spk::Question
@@ -75,24 +81,6 @@ fn oriented(outcome: pck::Outcome) -> bool {
             false
         }
     }
-}
-
-// Goes through the questions and asks none.
-fn nothing(asked: &[u8], passes: u64) -> State {
-    let n = asked.len() / 18;
-    let mut sum = State::zero();
-    if n == 0 {
-        return sum;
-    }
-    let mut at: usize = 0;
-    let mut i: u64 = 0;
-    while i < passes {
-        let q = spk_question(asked, at);
-        sum.x = sum.x + q.et;
-        at = next(at, n);
-        i += 1;
-    }
-    sum
 }
 
 // Opens the kernel by value.
@@ -191,25 +179,36 @@ fn orient(kernel: &[u8], table: Table, asked: &[u8], passes: u64) -> State {
 
 // ---- with a lent table
 
-// The sum so far, and what is remembered.
+// What was added up so far: the remembered segment's number, or one that no table has; 1 once a question was refused, else 0; the sum.
 struct Sums {
+    kept: usize,
+    refused: u64,
     sum: State,
-    memory: Memory,
 }
 
 fn begin() -> Sums {
     let sum = State::zero();
     Sums {
+        kept: Table::LENT,
+        refused: 0,
         sum: sum,
-        memory: Memory::Blank,
     }
 }
 
+// The memory made anew from its number: nothing of the last answer is then waited for but that.
 fn memory_in(run: Sums) -> Memory {
-    run.memory
+    if run.kept < Table::LENT {
+        Memory::Kept(run.kept)
+    } else {
+        Memory::Blank
+    }
 }
 
+// The sum; where a question was refused, a line on the error output says so.
 fn sum_in(run: Sums) -> State {
+    if 0 < run.refused {
+        streams::complain(b"measure: a question was refused\n");
+    }
     run.sum
 }
 
@@ -234,46 +233,100 @@ fn pck_asked(asked: &[u8], i: usize, m: usize) -> pck::Question
     pck_question(asked, 0)
 }
 
+fn was_refused(way: Way) -> u64 {
+    match way {
+        Way::Same => 0,
+        Way::Forward(_) => 0,
+        Way::Reversed(_) => 0,
+        Way::Chained => 0,
+        Way::Refused(_) => 1,
+    }
+}
+
 // The run with an answer more.
 fn with_answer(run: Sums, r: Asked, forget: bool) -> Sums {
     let answer = r.answer;
+    let way = answer.way;
+    let refused = run.refused | was_refused(way);
+    let memory = r.memory;
+    let kept = if forget {
+        Table::LENT
+    } else {
+        spk::place_kept(memory, Table::LENT)
+    };
     let state = answer.state;
     let sum = run.sum;
     let total = sum.plus(state);
-    if forget {
-        return Sums {
-            sum: total,
-            memory: Memory::Blank,
-        };
-    }
-    let kept = r.memory;
     Sums {
+        kept: kept,
+        refused: refused,
         sum: total,
+    }
+}
+
+fn not_turned(outcome: pck::Outcome) -> u64 {
+    match outcome {
+        pck::Outcome::Turned => 0,
+        pck::Outcome::Refused(_) => 1,
+    }
+}
+
+// The run with an orientation more.
+fn with_angles(run: Sums, r: Oriented) -> Sums {
+    let outcome = r.outcome;
+    let refused = run.refused | not_turned(outcome);
+    let angles = r.angles;
+    let sum = run.sum;
+    let total = sum.plus(angles);
+    Sums {
+        kept: Table::LENT,
+        refused: refused,
+        sum: total,
+    }
+}
+
+// The pass after this one.
+fn next_pass(i: usize, passes: usize) -> usize
+    requires { ⌜ i < passes ⌝ }
+    ensures { λ j. ⌜ (i < j) × (j ≤ passes) ⌝ }
+{
+    i + 1
+}
+
+// What stands for an answer where nothing is asked. Nobody can tell its way beforehand, so that the loop is that of a question.
+fn unasked(q: spk::Question, kept: Memory) -> Asked {
+    let mut state = State::zero();
+    state.x = q.et;
+    let way = if q.target == q.center {
+        Way::Refused(Refusal::EpochNan)
+    } else {
+        Way::Same
+    };
+    Asked {
+        answer: Answer {
+            way: way,
+            state: state,
+        },
         memory: kept,
     }
 }
 
-fn with_angles(sum: State, r: Oriented) -> State {
-    let angles = r.angles;
-    sum.plus(angles)
-}
-
-// The pass after this one: none once a question is refused.
-fn next_pass(i: usize, passes: usize, r: Asked) -> usize
-    requires { ⌜ i < passes ⌝ }
-    ensures { λ j. ⌜ (i < j) × (j ≤ passes) ⌝ }
-{
-    let answer = r.answer;
-    let way = answer.way;
-    if answered(way) { i + 1 } else { passes }
-}
-
-fn next_oriented(i: usize, passes: usize, r: Oriented) -> usize
-    requires { ⌜ i < passes ⌝ }
-    ensures { λ j. ⌜ (i < j) × (j ≤ passes) ⌝ }
-{
-    let outcome = r.outcome;
-    if oriented(outcome) { i + 1 } else { passes }
+// Goes through the questions as `ask_lent` does, and asks none.
+fn nothing(asked: &[u8], m: usize) -> State {
+    let p = asked.len() / 18;
+    let mut run = begin();
+    let mut i: usize = 0;
+    if p == 0 {
+        return sum_in(run);
+    }
+    while i < m {
+        let q = spk_asked(asked, i, p);
+        let k = memory_in(run);
+        let r = unasked(q, k);
+        run = with_answer(run, r, false);
+        i = next_pass(i, m);
+    }
+    sum_in(run)
 }
 
 // Asks an SPK.
@@ -295,14 +348,36 @@ fn ask_lent(
         let k = memory_in(run);
         let r = lent::state(kernel, table, n, k, q);
         run = with_answer(run, r, forget);
-        let next = next_pass(i, m, r);
+        let next = next_pass(i, m);
         i = next;
     }
     sum_in(run)
 }
 
-fn nothing_yet() -> State {
-    State::zero()
+// The same through an index.
+fn ask_indexed(
+    kernel: &[u8],
+    table: &[Segment],
+    ix: &[u16],
+    asked: &[u8],
+    n: usize,
+    p: usize,
+    forget: bool,
+    m: usize,
+) -> State
+    requires { ⌜ (0 < p) × (18 * p ≤ length (now asked)) ⌝ }
+{
+    let mut run = begin();
+    let mut i: usize = 0;
+    while i < m {
+        let q = spk_asked(asked, i, p);
+        let k = memory_in(run);
+        let r = indexed::state(kernel, table, ix, n, k, q);
+        run = with_answer(run, r, forget);
+        let next = next_pass(i, m);
+        i = next;
+    }
+    sum_in(run)
 }
 
 // Asks a PCK.
@@ -316,16 +391,16 @@ fn orient_lent(
 ) -> State
     requires { ⌜ (0 < p) × (14 * p ≤ length (now asked)) ⌝ }
 {
-    let mut sum = nothing_yet();
+    let mut run = begin();
     let mut i: usize = 0;
     while i < m {
         let q = pck_asked(asked, i, p);
         let r = lent::orient(kernel, table, n, q);
-        sum = with_angles(sum, r);
-        let next = next_oriented(i, m, r);
+        run = with_angles(run, r);
+        let next = next_pass(i, m);
         i = next;
     }
-    sum
+    sum_in(run)
 }
 
 fn spk_family() -> Family
@@ -364,6 +439,26 @@ fn lend_spk(kernel: &[u8], asked: &[u8], p: usize, forget: bool, passes: usize) 
     ask_lent(kernel, &t, asked, n, p, forget, passes)
 }
 
+// Opens an SPK into a table of 4,096 places, fills its index, and asks through that.
+fn lend_indexed(
+    kernel: &[u8],
+    asked: &[u8],
+    ix: &mut [u16],
+    p: usize,
+    forget: bool,
+    passes: usize,
+) -> State
+    requires { ⌜ (0 < p) × (18 * p ≤ length (now asked)) ⌝ }
+{
+    let f = spk_family();
+    let e = table::no_segment();
+    let mut t = [e; Table::LENT];
+    let y = planned(kernel, f);
+    indexed::carry_out(&mut t, ix, kernel, f, y);
+    let n = opening::count_in(y);
+    ask_indexed(kernel, &t, ix, asked, n, p, forget, passes)
+}
+
 // Opens a PCK into a table of 4,096 places, and asks it.
 fn lend_pck(kernel: &[u8], asked: &[u8], p: usize, passes: usize) -> State
     requires { ⌜ (0 < p) × (14 * p ≤ length (now asked)) ⌝ }
@@ -393,6 +488,23 @@ fn open_lent(kernel: &[u8], asked: &[u8], passes: u64) -> State {
     sum
 }
 
+// The same with its index.
+fn open_indexed(kernel: &[u8], asked: &[u8], passes: u64) -> State {
+    let p = asked.len() / 18;
+    let mut sum = State::zero();
+    if p == 0 {
+        return sum;
+    }
+    let mut ix = [0u16; 16384];
+    let mut i: u64 = 0;
+    while i < passes {
+        let s = lend_indexed(kernel, asked, &mut ix, p, true, 1);
+        sum = sum.plus(s);
+        i += 1;
+    }
+    sum
+}
+
 // The passes over a kernel that is opened into a lent table.
 fn over_lent(kernel: &[u8], asked: &[u8], mode: &[u8], passes: u64) -> State {
     let count = (passes % 1000000000) as usize;
@@ -408,6 +520,28 @@ fn over_lent(kernel: &[u8], asked: &[u8], mode: &[u8], passes: u64) -> State {
         return State::zero();
     }
     lend_spk(kernel, asked, p, check::same(mode, b"forget"), count)
+}
+
+// The passes through an index.
+fn over_indexed(kernel: &[u8], asked: &[u8], mode: &[u8], passes: u64) -> State {
+    let count = (passes % 1000000000) as usize;
+    let p = asked.len() / 18;
+    if p == 0 {
+        return State::zero();
+    }
+    let mut ix = [0u16; 16384];
+    lend_indexed(
+        kernel,
+        asked,
+        &mut ix,
+        p,
+        check::same(mode, b"indexed-forget"),
+        count,
+    )
+}
+
+fn through_index(mode: &[u8]) -> bool {
+    check::same(mode, b"indexed-remember") || check::same(mode, b"indexed-forget")
 }
 
 // The number that a text of at most nine digits writes.
@@ -466,16 +600,22 @@ fn by_value(mode: &[u8]) -> bool {
 // The passes in a mode.
 fn run(kernel: &[u8], asked: &[u8], mode: &[u8], passes: u64) -> State {
     if check::same(mode, b"nothing") {
-        return nothing(asked, passes);
+        return nothing(asked, (passes % 1000000000) as usize);
     }
     if check::same(mode, b"open") {
         return open_lent(kernel, asked, passes);
+    }
+    if check::same(mode, b"indexed-open") {
+        return open_indexed(kernel, asked, passes);
     }
     if check::same(mode, b"by-open") {
         return open(kernel, passes);
     }
     if check::same(mode, b"add") {
         return add(kernel, passes);
+    }
+    if through_index(mode) {
+        return over_indexed(kernel, asked, mode, passes);
     }
     if by_value(mode) {
         return over(kernel, asked, mode, passes);
@@ -510,11 +650,11 @@ fn main() {
         streams::complain(b"usage: measure MODE KERNEL QUESTIONS PASSES\n");
         return;
     }
-    let mut mode = [0u8; 16];
+    let mut mode = [0u8; 20];
     let m = os::arg(1, &mut mode);
     let mut passes = [0u8; 16];
     let p = os::arg(4, &mut passes);
-    let mut kernel = io::large_buffer();
+    let mut kernel = [0u8; ROOM];
     let k = load(2, &mut kernel);
     let mut asked = io::large_buffer();
     let q = load(3, &mut asked);

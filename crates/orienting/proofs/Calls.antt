@@ -35,7 +35,7 @@ use Rattle.pck.specs.declared.Oriented.{Oriented}
 use Rattle.opening.specs.declared.Plan.{Plan}
 use Rattle.lent.proofs.Seg.{Seg}
 use Rattle.lent.proofs.Rows.{Bod, bod, Ori, ori, Fam, fam, fam-tells, Pla, pla, pla-tells, pla-makes}
-use Rattle.lent.proofs.Calls.{ShrOwn, uv, calls-told, calls-held, passes-shr, passes-both, passes-three}
+use Rattle.lent.proofs.Calls.{ShrOwn, uv, calls-told, calls-held, passes-shr, passes-both}
 use Rattle.orienting.specs.Records.{questionSize, questionMark, questionAt}
 use Rattle.inquiry.specs.Order.{planFor}
 use Prim.Native.Nat.{_+_, _*_}
@@ -51,8 +51,10 @@ use Rattle.orienting.proofs.plan as m-plan
 use Rattle.orienting.proofs.plan.Symbol.{name as #plan}
 use Rattle.orienting.proofs.answered as m-answered
 use Rattle.orienting.proofs.answered.Symbol.{name as #answered}
-use Rattle.orienting.proofs.write_all as m-write-all
-use Rattle.orienting.proofs.write_all.Symbol.{name as #write-all}
+use denote.Builtin.{u16}
+use Rattle.indexed.proofs.Four.{passes-four}
+use Rattle.orienting.proofs.write_indexed as m-write-indexed
+use Rattle.orienting.proofs.write_indexed.Symbol.{name as #write-indexed}
 
 module _ {M : Type 1} (𝓤 : URA M) (H : Heap 𝓤) (A : Atoms 𝓤) (mem : Memory → SProp 𝓤) (run : Routine → Fun 𝓤) where
   -- the contracts
@@ -71,8 +73,8 @@ module _ {M : Type 1} (𝓤 : URA M) (H : Heap 𝓤) (A : Atoms 𝓤) (mem : Mem
   abbrev pub the-answered : Contract 𝓤
   the-answered = tripleOf 𝓤 H A m-answered.signature (m-answered.spec 𝓤 H A mem run)
 
-  abbrev pub the-write-all : Contract 𝓤
-  the-write-all = tripleOf 𝓤 H A m-write-all.signature (m-write-all.spec 𝓤 H A mem run)
+  abbrev pub the-write-indexed : Contract 𝓤
+  the-write-indexed = tripleOf 𝓤 H A m-write-indexed.signature (m-write-indexed.spec 𝓤 H A mem run)
 
   -- ---- question-at
   module _ (κ″ : Lft) (q″ : Share) (a : RefT (List ℕ)) (i : ℕ) where
@@ -191,26 +193,26 @@ module _ {M : Type 1} (𝓤 : URA M) (H : Heap 𝓤) (A : Atoms 𝓤) (mem : Mem
             passes-shr u8 κ″ q″ a (the-answered .pre to-answered) (asks-answered is-y)
             (calls-held fm the-answered to-answered (known to-answered) usize (vint w64) (uint-tells w64) (‵ (flft κ″ q″) ⊛ ‵ ftrue) (λ r. ensured 𝓤 H A m-answered.ended (m-answered.clauses 𝓤 H A mem run) (κ″, tt) (a, (y, tt)) tt r) (λ u. id⊢ 𝓤 _) Held-answered said-answered os (λ r e is. split ! $ move ! (1 ∷ []) $ drop ! $ move ! (1 ∷ 0 ∷ []) $ go r e is))
 
-  -- ---- write-all
-  module _ (κ κ′ κ″ : Lft) (q q′ q″ : Share) (k : RefT (List ℕ)) (t : RefT (List Segment)) (a : RefT (List ℕ)) (n : ℕ) (m : ℕ) where
-    abbrev pub to-write-all : the-write-all .Ghost
-    to-write-all = (((κ, (κ′, (κ″, tt))), (q, (q′, (q″, tt))), tt, (k, (t, (a, (n, (m, tt))))), (sliceVal (k .ptr) (length (k .now)) ∷ [], (sliceVal (t .ptr) (length (t .now)) ∷ [], (sliceVal (a .ptr) (length (a .now)) ∷ [], (vint w64 n ∷ [], (vint w64 m ∷ [], tt)))))), tt)
+  -- ---- write-indexed
+  module _ (κ κ′ κ‴ κ″ : Lft) (q q′ q‴ q″ : Share) (k : RefT (List ℕ)) (t : RefT (List Segment)) (x : RefT (List ℕ)) (a : RefT (List ℕ)) (n : ℕ) (m : ℕ) where
+    abbrev pub to-write-indexed : the-write-indexed .Ghost
+    to-write-indexed = (((κ, (κ′, (κ‴, (κ″, tt)))), (q, (q′, (q‴, (q″, tt)))), tt, (k, (t, (x, (a, (n, (m, tt)))))), (sliceVal (k .ptr) (length (k .now)) ∷ [], (sliceVal (t .ptr) (length (t .now)) ∷ [], (sliceVal (x .ptr) (length (x .now)) ∷ [], (sliceVal (a .ptr) (length (a .now)) ∷ [], (vint w64 n ∷ [], (vint w64 m ∷ [], tt))))))), tt)
 
-    abbrev pub Held-write-all : Unit {0} → Type 0
-    Held-write-all r = Unit {0}
+    abbrev pub Held-write-indexed : Unit {0} → Type 0
+    Held-write-indexed r = Unit {0}
 
     module _ (W : Given 𝓤 H A) where
-      asks-write-all : 14 * m ≤ length (a .now) → Is usize n (vint w64 n ∷ []) → Is usize m (vint w64 m ∷ []) → ent 𝓤 (⋆ 𝓤 H A (((‵ (flft κ q) ⊛ ‵ (flft κ′ q′) ⊛ ‵ (flft κ″ q″) ⊛ ‵ ftrue) ⊛ ‵ (ShrOwn u8 κ k)) ∷ ‵ (ShrOwn Seg κ′ t) ∷ ‵ (ShrOwn u8 κ″ a) ∷ [])) (the-write-all .pre to-write-all)
-      asks-write-all within is-n is-m = qed W (((‵ (flft κ q) ⊛ ‵ (flft κ′ q′) ⊛ ‵ (flft κ″ q″) ⊛ ‵ ftrue) ⊛ ‵ (ShrOwn u8 κ k)) ∷ ‵ (ShrOwn Seg κ′ t) ∷ ‵ (ShrOwn u8 κ″ a) ∷ []) ∵ says ! within $ split ! $ frame ! $ nothing ! $ owned ! usize (Is usize) (uint-makes 𝓤 H A W w64) m _ is-m $ fjoin ! $ owned ! usize (Is usize) (uint-makes 𝓤 H A W w64) n _ is-n $ fjoin ! $ move ! (3 ∷ 0 ∷ []) $ fjoin ! $ move ! (2 ∷ 0 ∷ []) $ fjoin ! $ move ! (1 ∷ 0 ∷ []) $ fjoin ! $ done !
+      asks-write-indexed : 14 * m ≤ length (a .now) → Is usize n (vint w64 n ∷ []) → Is usize m (vint w64 m ∷ []) → ent 𝓤 (⋆ 𝓤 H A ((((‵ (flft κ q) ⊛ ‵ (flft κ′ q′) ⊛ ‵ (flft κ‴ q‴) ⊛ ‵ (flft κ″ q″) ⊛ ‵ ftrue) ⊛ ‵ (ShrOwn u8 κ k)) ⊛ ‵ (ShrOwn Seg κ′ t)) ∷ ‵ (ShrOwn u16 κ‴ x) ∷ ‵ (ShrOwn u8 κ″ a) ∷ [])) (the-write-indexed .pre to-write-indexed)
+      asks-write-indexed within is-n is-m = qed W ((((‵ (flft κ q) ⊛ ‵ (flft κ′ q′) ⊛ ‵ (flft κ‴ q‴) ⊛ ‵ (flft κ″ q″) ⊛ ‵ ftrue) ⊛ ‵ (ShrOwn u8 κ k)) ⊛ ‵ (ShrOwn Seg κ′ t)) ∷ ‵ (ShrOwn u16 κ‴ x) ∷ ‵ (ShrOwn u8 κ″ a) ∷ []) ∵ says ! within $ split ! $ split ! $ frame ! $ nothing ! $ owned ! usize (Is usize) (uint-makes 𝓤 H A W w64) m _ is-m $ fjoin ! $ owned ! usize (Is usize) (uint-makes 𝓤 H A W w64) n _ is-n $ fjoin ! $ move ! (4 ∷ 0 ∷ []) $ fjoin ! $ move ! (3 ∷ 0 ∷ []) $ fjoin ! $ move ! (2 ∷ 0 ∷ []) $ fjoin ! $ move ! (1 ∷ 0 ∷ []) $ fjoin ! $ done !
 
-      said-write-all : (r : Unit {0}) → ent 𝓤 (ensured 𝓤 H A m-write-all.ended (m-write-all.clauses 𝓤 H A mem run) (κ, (κ′, (κ″, tt))) (k, (t, (a, (n, (m, tt))))) tt r) (fact 𝓤 (Held-write-all r))
-      said-write-all r = factI 𝓤 (Unit {0}) _ tt
+      said-write-indexed : (r : Unit {0}) → ent 𝓤 (ensured 𝓤 H A m-write-indexed.ended (m-write-indexed.clauses 𝓤 H A mem run) (κ, (κ′, (κ‴, (κ″, tt)))) (k, (t, (x, (a, (n, (m, tt)))))) tt r) (fact 𝓤 (Held-write-indexed r))
+      said-write-indexed r = factI 𝓤 (Unit {0}) _ tt
 
       module _ {C : Calls 𝓤 H} {Λ : Loops 𝓤 H} {E : Env 𝓤 H} {Γ : List (Item 𝓤)} {xs : List Opd} {d : Place} {rest : Body} {Q : Post 𝓤 H} where
-        pub calls-write-all : FmC 𝓤 H (W .laws) C → Triple 𝓤 (C #write-all) the-write-all → 14 * m ≤ length (a .now) → Is usize n (vint w64 n ∷ []) → Is usize m (vint w64 m ∷ [])
-            → Opds (Go {0}) W (raw (the-write-all .pre to-write-all) ∷ ‵ (ShrOwn u8 κ″ a) ∷ ‵ (ShrOwn Seg κ′ t) ∷ ‵ (ShrOwn u8 κ k) ∷ Γ) E xs (sliceVal (k .ptr) (length (k .now)) ∷ sliceVal (t .ptr) (length (t .now)) ∷ sliceVal (a .ptr) (length (a .now)) ∷ vint w64 n ∷ vint w64 m ∷ [])
-            → ((r : Unit {0}) → Held-write-all r → Is Nothing r (uv r ∷ []) → Sq W (‵ (ShrOwn u8 κ k) ∷ ‵ (flft κ q) ∷ ‵ (ShrOwn Seg κ′ t) ∷ ‵ (flft κ′ q′) ∷ ‵ (ShrOwn u8 κ″ a) ∷ ‵ (flft κ″ q″) ∷ Γ) (lands C Λ E d (uv r) rest Q))
-            → Sq W (‵ (ShrOwn u8 κ k) ∷ ‵ (flft κ q) ∷ ‵ (ShrOwn Seg κ′ t) ∷ ‵ (flft κ′ q′) ∷ ‵ (ShrOwn u8 κ″ a) ∷ ‵ (flft κ″ q″) ∷ Γ) (runs C Λ E (seq (call #write-all xs d) rest) Q)
-        calls-write-all fm known within is-n is-m os go =
-            passes-three u8 Seg u8 κ κ′ κ″ q q′ q″ k t a (the-write-all .pre to-write-all) (asks-write-all within is-n is-m)
-            (calls-held fm the-write-all to-write-all (known to-write-all) Nothing uv (nothing-tells) (‵ (flft κ q) ⊛ ‵ (flft κ′ q′) ⊛ ‵ (flft κ″ q″) ⊛ ‵ ftrue) (λ r. ensured 𝓤 H A m-write-all.ended (m-write-all.clauses 𝓤 H A mem run) (κ, (κ′, (κ″, tt))) (k, (t, (a, (n, (m, tt))))) tt r) (λ u. id⊢ 𝓤 _) Held-write-all said-write-all os (λ r e is. split ! $ move ! (1 ∷ []) $ split ! $ move ! (1 ∷ []) $ split ! $ move ! (1 ∷ []) $ drop ! $ move ! (5 ∷ 2 ∷ 4 ∷ 1 ∷ 3 ∷ 0 ∷ []) $ go r e is))
+        pub calls-write-indexed : FmC 𝓤 H (W .laws) C → Triple 𝓤 (C #write-indexed) the-write-indexed → 14 * m ≤ length (a .now) → Is usize n (vint w64 n ∷ []) → Is usize m (vint w64 m ∷ [])
+            → Opds (Go {0}) W (raw (the-write-indexed .pre to-write-indexed) ∷ ‵ (ShrOwn u8 κ″ a) ∷ ‵ (ShrOwn u16 κ‴ x) ∷ ‵ (ShrOwn Seg κ′ t) ∷ ‵ (ShrOwn u8 κ k) ∷ Γ) E xs (sliceVal (k .ptr) (length (k .now)) ∷ sliceVal (t .ptr) (length (t .now)) ∷ sliceVal (x .ptr) (length (x .now)) ∷ sliceVal (a .ptr) (length (a .now)) ∷ vint w64 n ∷ vint w64 m ∷ [])
+            → ((r : Unit {0}) → Held-write-indexed r → Is Nothing r (uv r ∷ []) → Sq W (‵ (ShrOwn u8 κ k) ∷ ‵ (flft κ q) ∷ ‵ (ShrOwn Seg κ′ t) ∷ ‵ (flft κ′ q′) ∷ ‵ (ShrOwn u16 κ‴ x) ∷ ‵ (flft κ‴ q‴) ∷ ‵ (ShrOwn u8 κ″ a) ∷ ‵ (flft κ″ q″) ∷ Γ) (lands C Λ E d (uv r) rest Q))
+            → Sq W (‵ (ShrOwn u8 κ k) ∷ ‵ (flft κ q) ∷ ‵ (ShrOwn Seg κ′ t) ∷ ‵ (flft κ′ q′) ∷ ‵ (ShrOwn u16 κ‴ x) ∷ ‵ (flft κ‴ q‴) ∷ ‵ (ShrOwn u8 κ″ a) ∷ ‵ (flft κ″ q″) ∷ Γ) (runs C Λ E (seq (call #write-indexed xs d) rest) Q)
+        calls-write-indexed fm known within is-n is-m os go =
+            passes-four u8 Seg u16 u8 κ κ′ κ‴ κ″ q q′ q‴ q″ k t x a (the-write-indexed .pre to-write-indexed) (asks-write-indexed within is-n is-m)
+            (calls-held fm the-write-indexed to-write-indexed (known to-write-indexed) Nothing uv (nothing-tells) (‵ (flft κ q) ⊛ ‵ (flft κ′ q′) ⊛ ‵ (flft κ‴ q‴) ⊛ ‵ (flft κ″ q″) ⊛ ‵ ftrue) (λ r. ensured 𝓤 H A m-write-indexed.ended (m-write-indexed.clauses 𝓤 H A mem run) (κ, (κ′, (κ‴, (κ″, tt)))) (k, (t, (x, (a, (n, (m, tt)))))) tt r) (λ u. id⊢ 𝓤 _) Held-write-indexed said-write-indexed os (λ r e is. split ! $ move ! (1 ∷ []) $ split ! $ move ! (1 ∷ []) $ split ! $ move ! (1 ∷ []) $ split ! $ move ! (1 ∷ []) $ drop ! $ move ! (7 ∷ 3 ∷ 6 ∷ 2 ∷ 5 ∷ 1 ∷ 4 ∷ 0 ∷ []) $ go r e is))

@@ -20,6 +20,9 @@ use table::Table;
 // A question record has 14 bytes and begins with the mark A5 5C.
 const SIZE: usize = 14;
 
+// The numbers of an index that has room for 4,096 segments.
+const INDEX: usize = 16384;
+
 const MARK: Mark = Mark {
     first: 0xa5,
     second: 0x5c,
@@ -91,14 +94,14 @@ fn write_next(i: usize, m: usize, a: Oriented) -> usize
     if write_oriented(i, a) { i + 1 } else { m }
 }
 
-// Writes a line for each of the first m questions, over the first n of the lent segments.
-fn write_all(kernel: &[u8], table: &[Segment], asked: &[u8], n: usize, m: usize)
+// Writes a line for each of the first m questions, over the first n of the lent segments, through their index.
+fn write_indexed(kernel: &[u8], table: &[Segment], ix: &[u16], asked: &[u8], n: usize, m: usize)
     requires { ⌜ 14 * m ≤ length (now asked) ⌝ }
 {
     let mut i: usize = 0;
     while i < m {
         let q = question_at(asked, i);
-        let a = lent::orient(kernel, table, n, q);
+        let a = indexed::orient(kernel, table, ix, n, q);
         let next = write_next(i, m, a);
         i = next;
     }
@@ -123,15 +126,20 @@ fn answered(asked: &[u8], p: Plan) -> usize
     }
 }
 
-// Writes what a kernel replies to a file of questions: a refusal, or a line each, with a table of 4,096 places that it lends. No contract can
-// speak of what is written.
-pub fn reply(kernel: &[u8], asked: &[u8]) {
+// Writes what a kernel replies to a file of questions, with a table of 4,096 places that it lends, through the index that it fills.
+fn reply_in(kernel: &[u8], asked: &[u8], ix: &mut [u16]) {
     let f = family();
     let e = table::no_segment();
     let mut t = [e; Table::LENT];
     let p = plan(kernel, asked);
-    lent::carry_out(&mut t, kernel, f, p);
+    indexed::carry_out(&mut t, ix, kernel, f, p);
     let n = opening::count_in(p);
     let m = answered(asked, p);
-    write_all(kernel, &t, asked, n, m);
+    write_indexed(kernel, &t, ix, asked, n, m);
+}
+
+// Writes what a kernel replies to a file of questions: a refusal, or a line each. No contract can speak of what is written.
+pub fn reply(kernel: &[u8], asked: &[u8]) {
+    let mut ix = [0u16; INDEX];
+    reply_in(kernel, asked, &mut ix);
 }

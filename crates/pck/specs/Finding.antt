@@ -1,5 +1,5 @@
 -- What a question goes by: the definition of `Orienting`, with the segment that was found handed in. Assumes nothing: these are definitions.
-use Prim.Native.Nat.{ℕ, zero}
+use Prim.Native.Nat.{ℕ}
 use mathlib.Core.Bool.{Bool, cond, _||_}
 use mathlib.Core.List.{List, [], _∷_}
 use lib.Dec.{ltb}
@@ -22,9 +22,12 @@ bodyHits q s = hits q s
 abbrev pub bodyAt : Question → Segment → ℕ → Choice
 bodyAt q s i = cond (hits q s) (At i) Nothing
 
--- How many segments are looked at: none where a test before the choice decides.
-unfoldable pub bodyLooked : ℕ → ℕ → Question → ℕ
-bodyLooked limit n q = cond (ltb limit n || isNan (q .et)) zero n
+-- A test before the choice decides, and the answer that it then gives.
+unfoldable pub isEarly : ℕ → ℕ → Question → Bool
+isEarly limit n q = ltb limit n || isNan (q .et)
+
+unfoldable pub earlyOriented : ℕ → ℕ → Oriented
+earlyOriented limit n = cond (ltb limit n) (refusedOriented TableUnfit) (refusedOriented EpochNan)
 
 -- What a choice, which is s, comes to.
 abbrev pub turnedBy : List ℕ → Question → Choice → Segment → Oriented

@@ -5,9 +5,8 @@ ghost use Rattle.daf.specs.declared.Family.the-variants.{Pck};
 ghost use Rattle.segment.specs.Evaluating.{evaluated};
 ghost use Rattle.table.specs.Places.{lentLimit, limitOf};
 ghost use Rattle.table.specs.Choosing.{orElse};
-ghost use Rattle.table.specs.Steps.{Within};
 ghost use Rattle.pck.specs.Orienting.{orientedOf, refusedOriented, settled, isBody, hits, noCoverage};
-ghost use Rattle.pck.specs.Finding.{bodyAt, bodyLooked, orientedWith};
+ghost use Rattle.pck.specs.Finding.{bodyAt, isEarly, earlyOriented};
 use daf::Family;
 use frame::State;
 use refusal::Refusal;
@@ -94,14 +93,6 @@ impl Oriented {
     }
 }
 
-// Segment i, which was chosen, answers.
-fn evaluated_at(kernel: &[u8], i: usize, s: Segment, et: f64) -> Oriented
-    requires { ⌜ i < lentLimit ⌝ }
-    ensures { λ r. ⌜ r ≡ settled s (evaluated Pck (now (kernel .entry)) s i et) ⌝ }
-{
-    Oriented::settled(s, segment::evaluate(kernel, Family::Pck, s, i as u32, et))
-}
-
 // ---- what a question goes by
 
 // What was kept, else segment i where it is of the body frame and covers the epoch.
@@ -120,33 +111,25 @@ pub fn or_body(kept: Choice, q: Question, s: Segment, i: usize) -> Choice
     }
 }
 
-// How many segments are looked at: none where the question is decided before.
-pub fn body_looked(places: usize, n: usize, q: Question) -> usize
-    ensures { λ r. ⌜ r ≡ bodyLooked (limitOf places) n q ⌝ }
+// A test before any segment decides the question.
+pub fn is_early(places: usize, n: usize, q: Question) -> bool
+    ensures { λ r. ⌜ r ≡ isEarly (limitOf places) n q ⌝ }
 {
     if Table::LENT < n {
-        return 0;
+        return true;
     }
     if places < n {
-        return 0;
+        return true;
     }
     if q.et != q.et {
-        return 0;
+        return true;
     }
-    n
+    false
 }
 
-// The answer by the tests before any segment, else by the choice c, which is s.
-pub fn turn_by(
-    kernel: &[u8],
-    places: usize,
-    n: usize,
-    q: Question,
-    c: Choice,
-    s: Segment,
-) -> Oriented
-    requires { ⌜ Within lentLimit c ⌝ }
-    ensures { λ r. ⌜ r ≡ orientedWith (limitOf places) (now (kernel .entry)) n q c s ⌝ }
+// The answer that it then has.
+pub fn early(places: usize, n: usize) -> Oriented
+    ensures { λ r. ⌜ r ≡ earlyOriented (limitOf places) n ⌝ }
 {
     if Table::LENT < n {
         return Oriented::refused(Refusal::TableUnfit);
@@ -154,11 +137,21 @@ pub fn turn_by(
     if places < n {
         return Oriented::refused(Refusal::TableUnfit);
     }
-    if q.et != q.et {
-        return Oriented::refused(Refusal::EpochNan);
-    }
-    match c {
-        Choice::At(i) => evaluated_at(kernel, i, s, q.et),
-        Choice::Nothing => Oriented::refused(q.no_coverage()),
-    }
+    Oriented::refused(Refusal::EpochNan)
+}
+
+// Segment i, which was chosen, answers.
+pub fn answered_by(kernel: &[u8], i: usize, s: Segment, q: Question) -> Oriented
+    requires { ⌜ i < lentLimit ⌝ }
+    ensures { λ r. ⌜ r ≡ settled s (evaluated Pck (now (kernel .entry)) s i (q .et)) ⌝ }
+{
+    let e = segment::evaluate(kernel, Family::Pck, s, i as u32, q.et);
+    Oriented::settled(s, e)
+}
+
+// No segment answers.
+pub fn uncovered(q: Question) -> Oriented
+    ensures { λ r. ⌜ r ≡ refusedOriented (noCoverage q) ⌝ }
+{
+    Oriented::refused(q.no_coverage())
 }

@@ -12,4 +12,5 @@ pub mod Fit
 pub mod Refusals
 pub mod Inside
 pub mod Opened
+pub mod Plain
 pub mod OwnBytes

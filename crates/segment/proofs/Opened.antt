@@ -4,12 +4,13 @@ use mathlib.Core.Path.{_≡_, refl, sym, _∙_, subst}
 use mathlib.Core.Bool.{Bool, true, false, cond, not, _||_, true≢false}
 use mathlib.Core.List.{List}
 use native.Mathlib.Omega.{arith}
-use lib.Dec.{T, eqb, ltb}
+use lib.Dec.{eqb, ltb}
 use lib.IntN.{natAbs}
-use lib.Ieee.{Float, nan, inf, fin, isNan, lt, ofBits}
+use lib.Ieee.{Float, lt, ofBits}
 use borrow.Author.Tests.{eq-eqb, not-false}
 use Rattle.bits.specs.F64.{+0, finite}
 use Rattle.bits.specs.Same.{same}
+use Rattle.bits.proofs.Finite.{finite-number}
 use Rattle.bits.proofs.Order.{as-eq}
 use Rattle.bits.proofs.Patterns.{same-self}
 use Rattle.bits.proofs.Tests.{by-test, and-both}
@@ -35,12 +36,6 @@ use Rattle.segment.proofs.Refusals.{exactly-14}
 
 -- ---- a kind is the same as itself, where no number of it is NaN
 
-finite-number : (x : Float) → finite x ≡ true → T (not (isNan x))
-unfolding isNan
-finite-number nan e = absurd (true≢false (sym e))
-finite-number (inf s) e = tt
-finite-number (fin s m e) h = tt
-
 finite-same : (x : Float) → finite x ≡ true → same x x ≡ true
 finite-same x e = as-eq (same x x) (same-self x (finite-number x e))
 
@@ -54,7 +49,7 @@ trailer-same t p q = rw (p, q, eq-eqb (t .size) (t .size) refl, eq-eqb (t .count
 kind-same : (a : Kind) → sameTrailer (trailerIn a) (trailerIn a) ≡ true → sameKind a a ≡ true
 kind-same a e = and-both (eqb (typeIn a) (typeIn a)) (sameTrailer (trailerIn a) (trailerIn a)) (eq-eqb (typeIn a) (typeIn a) refl) e
 
-interval-finite : (init intlen : Float) → badInterval init intlen ≡ false → (finite init ≡ true) × (finite intlen ≡ true)
+pub interval-finite : (init intlen : Float) → badInterval init intlen ≡ false → (finite init ≡ true) × (finite intlen ≡ true)
 interval-finite init intlen e =
     let above = not (lt +0 intlen) in (
       not-false (finite init) (or-second above (not (finite init)) (or-first (above || not (finite init)) (not (finite intlen)) e)),
@@ -75,7 +70,7 @@ same-itself Nine t len h = kind-same (kindWith Nine t) (trailer-same (trailerIn 
 same-itself Thirteen t len h = kind-same (kindWith Thirteen t) (trailer-same (trailerIn (kindWith Thirteen t)) zero-same zero-same)
 
 -- so is the kind that a trailer makes, where the segment is not malformed
-made-same : (f : Family) (k : List ℕ) (s : Segment) → malformedIn f k s ≡ false → sameKind (kindIn f k s) (kindIn f k s) ≡ true
+pub made-same : (f : Family) (k : List ℕ) (s : Segment) → malformedIn f k s ≡ false → sameKind (kindIn f k s) (kindIn f k s) ≡ true
 unfolding malformed kindOf
 made-same f k s e =
     let form = formOf f (s .«data_type») in

@@ -1,15 +1,16 @@
 -- What the tests of a segment's addresses tell. Assumes nothing.
-use Prim.Native.Nat.{ℕ, _^_, _≤_, _<_}
-use mathlib.Core.Path.{_≡_, refl, ap₂}
+use Prim.Native.Nat.{ℕ, _*_, _/_, _^_, _≤_, _<_}
+use mathlib.Core.Path.{_≡_, sym, _∙_, ap₂}
 use mathlib.Core.Bool.{true, false, _||_, true≢false}
 use native.Mathlib.Omega.{arith}
-use borrow.Author.Tests.{ltb-false}
+use borrow.Author.Tests.{ltb-true, ltb-false, lt-ltb, le-ltb}
 use lib.Dec.{T, ltb}
 use lib.IntN.{ℤ, pos, negsuc, natAbs}
 use lib.Signed.{ltZ, nonNeg}
 use mir.Syntax.{w32, w64}
 use mir.Val.{Fits, SFits, ofZ, toZ}
 use mir.ValLaws.{toZ-ofZ}
+use Rattle.bits.proofs.Tests.{by-test}
 use Rattle.segment.specs.Malformed.{misplaced}
 use Rattle.segment.proofs.Tests.{or-first, or-second}
 
@@ -33,10 +34,11 @@ not-under (pos a) (pos b) p e = tt
 not-under (pos a) (negsuc b) p e = absurd (true≢false e)
 not-under (negsuc a) b p e = absurd p
 
--- over a count
-pub over-count : (n : ℕ) (a : ℤ) → T (nonNeg a) → ltb n (natAbs a) ≡ ltZ (pos n) a
-over-count n (pos a) p = refl
-over-count n (negsuc a) p = absurd p
+-- over a count of eights: over its bytes
+pub over-bytes : (n : ℕ) (a : ℤ) → T (nonNeg a) → ltb n (8 * natAbs a) ≡ ltZ (pos (n / 8)) a
+over-bytes n (negsuc a) p = absurd p
+over-bytes n (pos a) p =
+    by-test (ltb n (8 * a)) (λ t. t ∙ sym (lt-ltb (n / 8) a (omega (arith, ltb-true n (8 * a) t)))) (λ t. t ∙ sym (le-ltb (n / 8) a (omega (arith, ltb-false n (8 * a) t))))
 
 -- the addresses of a segment that is not misplaced
 pub record Placed (whole : ℕ) (start end : ℤ) : Type 0 where

@@ -2,7 +2,7 @@
 use Prim.Native.Nat.{ℕ, _+_, _-_, _*_, _/_, _≤_}
 use mathlib.Core.Path.{_≡_, refl, ap, _∙_}
 use mathlib.Core.Bool.{false, not}
-use native.Mathlib.Nat.{mul-div-right}
+use native.Mathlib.Nat.{le-trans, le-of-eq, one-mul, mul-div-right, le-div-iff-mul-le}
 use native.Mathlib.Omega.{arith}
 use lib.Dec.{eqb, ltb}
 use borrow.Author.Tests.{ltb-false, eqb-true, not-false, le-ltb, eq-eqb}
@@ -21,6 +21,12 @@ module _ (series rsize : ℕ) where
   -- so it is not 0
   pub at-least-size : badSize series rsize ≡ false → 1 ≤ rsize
   at-least-size e = let h = record-size e in omega arith
+
+-- a record with room for a coefficient in each series that is 2 + series * C passes
+pub room-passes : (series rsize : ℕ) → 1 ≤ series → 2 + series ≤ rsize → rsize ≡ 2 + series * coefficients series rsize → badSize series rsize ≡ false
+room-passes series rsize s h e =
+    let room : 1 * series ≤ rsize - 2 = le-trans (le-of-eq (one-mul series)) (omega arith) in
+    rw (le-ltb (coefficients series rsize) 1 (le-div-iff-mul-le s .1 room), eq-eqb rsize (2 + series * coefficients series rsize) e)
 
 -- every such number passes
 pub sizes-pass : (series c : ℕ) → 1 ≤ series → 1 ≤ c → badSize series (2 + series * c) ≡ false

@@ -1,5 +1,5 @@
 -- The evaluation of one segment of a table, forged or not, on the kernel lent now.
-use Prim.Native.Nat.{ℕ, _+_, _*_, _≤_}
+use Prim.Native.Nat.{ℕ, _+_, _*_, _^_, _≤_, _<_}
 use mathlib.Core.Path.{_≡_}
 use mathlib.Core.Bool.{Bool, true, false, not, _||_}
 use mathlib.Core.List.{List, [], _∷_}
@@ -13,15 +13,15 @@ use Rattle.refusal.specs.declared.Refusal.the-variants.{Unsupported as TypeUnsu
 use Rattle.refusal.specs.Order.{Case, case, firstOf}
 use Rattle.frame.specs.declared.State.{State}
 use Rattle.frame.specs.State.{zeroState}
-use Rattle.daf.specs.Addresses.{byteOf}
+use Rattle.daf.specs.Addresses.{byteOf, wholeDoubles}
 use Rattle.daf.specs.declared.Family.{Family}
 use Rattle.cheby.specs.declared.Cheby.{Cheby}
 use Rattle.cheby.specs.declared.Cheby.the-variants.{Value, NoRadius}
 use Rattle.cheby.specs.Cheby.{recordFor, type2Of, type3Of}
 use Rattle.interp.specs.Window.{windowSize}
 use Rattle.interp.specs.Discrete.{type9Of, type13Of}
-use Rattle.segment.specs.Kinds.{sameKind}
-use Rattle.segment.specs.Malformed.{coefficients, malformedIn, kindIn}
+use Rattle.segment.specs.Kinds.{sameKind, recordsAt}
+use Rattle.segment.specs.Malformed.{limitNan, misplaced, lengthOf, coefficients, badRecords, malformedIn, kindIn}
 use Rattle.segment.specs.declared.Kind.{Kind}
 use Rattle.segment.specs.declared.Kind.the-variants.{Unsupported, Type2, Type3, Type9, Type13}
 use Rattle.segment.specs.declared.Trailer.{Trailer}
@@ -119,3 +119,12 @@ Sound k a (Type2 init intlen rsize n) = Records 3 k a (record { init = init; int
 Sound k a (Type3 init intlen rsize n) = Records 6 k a (record { init = init; intlen = intlen; size = rsize; count = n })
 Sound k a (Type9 d n) = States k a d n
 Sound k a (Type13 d n) = States k a d n
+
+-- What the quick tests leave of a segment with a trailer of so many series: no test fails, the trailer on this kernel is t, and its whole numbers are small.
+pub record Plain (series : ℕ) (k : List ℕ) (s : Segment) (t : Trailer) : Type 0 where
+  pub limits : limitNan (s .first) (s .last) ≡ false
+  pub places : misplaced (wholeDoubles k) (s .start) (s .end) ≡ false
+  pub numbers : badRecords series t (lengthOf (natAbs (s .start)) (natAbs (s .end))) ≡ false
+  pub words : recordsAt k (natAbs (s .end)) ≡ t
+  pub short : t .size < 2 ^ 31
+  pub few : t .count < 2 ^ 31

@@ -1,15 +1,19 @@
 // Segments: what a table keeps of one, the tests that a segment has to pass (refusal 9), and the evaluation of one segment on the kernel lent now.
 // A table may be forged: evaluation repeats the tests, and reads within the segment's own bounds only.
 ghost use mathlib.Core.Path.{_≡_};
+ghost use mathlib.Core.Bool.{true, false};
 ghost use Prim.Native.Nat.{_+_, _*_, _^_, _≤_, _<_};
 ghost use lib.Dec.{T};
 ghost use lib.IntN.{natAbs};
 ghost use lib.Signed.{nonNeg};
 ghost use lib.ListN.{length};
-ghost use Rattle.daf.specs.Addresses.{byteOf, doubleOfAddress};
+ghost use Rattle.bits.specs.Bytes.{doubleOf};
+ghost use Rattle.bits.specs.F64.{finite};
+ghost use Rattle.daf.specs.Addresses.{byteOf, doubleOfAddress, wholeDoubles};
 ghost use Rattle.segment.specs.Kinds.{formOf, handled, wholeNumber, recordsAt, statesTrailer, statesAt, trailerAt, kindWith, typeIn, trailerIn, sameTrailer, sameKind};
 ghost use Rattle.segment.specs.Malformed.{limitNan, misplaced, trailerSize, coefficients, badSize, badInterval, overruns, badRecords, badLength, badStates, badTrailer, found, segmentWith, judged};
-ghost use Rattle.segment.specs.Evaluating.{unsupported, unfit, recordByte, evaluated, valued, Records, States, Sound};
+ghost use Rattle.segment.specs.Evaluating.{unsupported, unfit, recordByte, evaluated, valued, Records, States, Sound, Plain};
+ghost use Rattle.segment.specs.declared.Form.the-variants.{Three};
 use cheby::Cheby;
 use daf::Family;
 use daf::Summary;
@@ -41,18 +45,19 @@ pub enum Kind {
     },
 }
 
+// The fields stand so that a copy of sixteen bytes at a time never cuts a pair that is read at once: the limits, INIT with INTLEN.
 pub struct Segment {
     pub target: i32,
     pub center: i32,
     pub frame: i32,
     pub data_type: i32,
-    pub start: i32,
-    pub end: i32,
     pub first: f64,
     pub last: f64,
+    pub start: i32,
+    pub end: i32,
+    pub kind: Kind,
     pub name_at: usize,
     pub marked: bool,
-    pub kind: Kind,
 }
 
 impl Segment {
@@ -109,6 +114,18 @@ impl Trailer {
         size: 0,
         count: 0,
     };
+
+    // The numbers of types 2 and 3.
+    fn of_records(init: f64, intlen: f64, size: u64, count: u64) -> Trailer
+        ensures { λ r. ⌜ r ≡ record { init = init; intlen = intlen; size = size; count = count } ⌝ }
+    {
+        Trailer {
+            init,
+            intlen,
+            size,
+            count,
+        }
+    }
 
     // The numbers of types 9 and 13; INIT and INTLEN are none of them.
     fn of_states(degree: u64, count: u64) -> Trailer
@@ -176,9 +193,9 @@ fn end_of(s: Segment) -> usize
     s.end as usize
 }
 
-// Start under 1, end under start, or end past the whole doubles of the kernel.
-fn misplaced(s: Segment, whole: usize) -> bool
-    ensures { λ r. ⌜ r ≡ misplaced whole (s .start) (s .end) ⌝ }
+// Start under 1, end under start, or end past the whole doubles of the kernel: past its bytes.
+fn misplaced(kernel: &[u8], s: Segment) -> bool
+    ensures { λ r. ⌜ r ≡ misplaced (wholeDoubles (now (kernel .entry))) (s .start) (s .end) ⌝ }
 {
     if s.start < 1 {
         return true;
@@ -186,7 +203,7 @@ fn misplaced(s: Segment, whole: usize) -> bool
     if s.end < s.start {
         return true;
     }
-    whole < end_of(s)
+    kernel.len() < 8 * end_of(s)
 }
 
 // A trailer's number made whole, from its bits.
@@ -284,17 +301,11 @@ fn bad_size(series: u64, rsize: u64) -> bool
     rsize != 2 + series * c
 }
 
-// INTLEN is not above 0, or INIT or INTLEN not finite: a finite number less itself is 0, any other a NaN.
+// INTLEN is not above 0, or INIT or INTLEN not finite: a finite number less itself is 0, any other a NaN, and 0 times an infinity is a NaN too.
 fn bad_interval(init: f64, intlen: f64) -> bool
     ensures { λ r. ⌜ r ≡ badInterval init intlen ⌝ }
 {
-    if !(0.0 < intlen) {
-        return true;
-    }
-    if !(init - init == 0.0) {
-        return true;
-    }
-    !(intlen - intlen == 0.0)
+    !((init - init) * intlen < intlen)
 }
 
 // N records of RSIZE doubles and the trailer run past the segment. A factor over the length is enough, and below it the product fits.
@@ -407,7 +418,7 @@ fn find(kernel: &[u8], family: Family, s: Segment) -> Found
     if !handled(form) {
         return Found::Kind(Kind::Unsupported);
     }
-    if misplaced(s, daf::whole_doubles(kernel)) {
+    if misplaced(kernel, s) {
         return Found::Malformed;
     }
     let end = end_of(s);
@@ -545,12 +556,95 @@ fn unfit(kernel: &[u8], family: Family, s: Segment) -> bool
     }
 }
 
+// The word of an address: the pattern of its double.
+fn word_at(kernel: &[u8], address: usize) -> u64
+    requires { ⌜ (1 ≤ address) × (8 * address ≤ length (now kernel)) ⌝ }
+    ensures { λ r. ⌜ doubleOf r ≡ doubleOfAddress (now (kernel .entry)) address ⌝ }
+{
+    bits::le_u64(kernel, 8 * (address - 1))
+}
+
+// The words that end at address `end` are this trailer's, of types 2 and 3, with RSIZE and N as whole numbers. Other words may make the same
+// trailer: it says no to those.
+fn has_words(kernel: &[u8], end: usize, t: Trailer) -> bool
+    requires { ⌜ (4 ≤ end) × (8 * end ≤ length (now kernel)) × (finite (t .init) ≡ true) × (finite (t .intlen) ≡ true) × (t .size < 2 ^ 31) × (t .count < 2 ^ 31) ⌝ }
+    ensures { λ r. ⌜ (r ≡ true → recordsAt (now (kernel .entry)) end ≡ t) ⌝ }
+{
+    if !bits::has_bits(word_at(kernel, end - 3), t.init) {
+        return false;
+    }
+    if !bits::has_bits(word_at(kernel, end - 2), t.intlen) {
+        return false;
+    }
+    if !bits::has_whole(word_at(kernel, end - 1), t.size) {
+        return false;
+    }
+    bits::has_whole(word_at(kernel, end), t.count)
+}
+
+// RSIZE is 2 + series * C with C at least 2, by numbers of 32 bits: shorter to divide.
+fn plain_size(series: u32, rsize: u32) -> bool
+    requires { ⌜ (1 ≤ series) × (series ≤ 6) ⌝ }
+    ensures { λ r. ⌜ (r ≡ true → badSize series rsize ≡ false) ⌝ }
+{
+    if rsize < 2 + 2 * series {
+        return false;
+    }
+    rsize == 2 + series * ((rsize - 2) / series)
+}
+
+// C of such a record.
+fn plain_coefficients(series: u32, rsize: u64) -> usize
+    requires { ⌜ (1 ≤ series) × (2 ≤ rsize) × (rsize < 2 ^ 31) ⌝ }
+    ensures { λ r. ⌜ r ≡ coefficients series rsize ⌝ }
+{
+    ((rsize as u32 - 2) / series) as usize
+}
+
+// The segment passes every test, and its trailer on this kernel is t: the table's numbers are tested, and the kernel's words compared with them.
+// It says no to what is unusual too, limits in another order, fewer than two coefficients, other words: there the tests themselves decide.
+fn plainly_fits(kernel: &[u8], series: u32, s: Segment, t: Trailer) -> bool
+    requires { ⌜ (1 ≤ series) × (series ≤ 6) ⌝ }
+    ensures { λ r. ⌜ (r ≡ true → Plain series (now (kernel .entry)) s t) ⌝ }
+{
+    if !(s.first <= s.last) {
+        return false;
+    }
+    if misplaced(kernel, s) {
+        return false;
+    }
+    let end = end_of(s);
+    let len = (end + 1 - start_of(s)) as u64;
+    if len < t.size {
+        return false;
+    }
+    if !plain_size(series, t.size as u32) {
+        return false;
+    }
+    if overruns(t.size, t.count, len) {
+        return false;
+    }
+    if bad_interval(t.init, t.intlen) {
+        return false;
+    }
+    has_words(kernel, end, t)
+}
+
 // The byte at which the record for et starts, in a segment whose first address is `start`.
 fn record_byte(kernel: &[u8], start: usize, t: Trailer, et: f64) -> usize
     requires { ⌜ (1 ≤ start) × (1 ≤ t .count) × (byteOf start + 8 * (t .count * t .size) ≤ length (now kernel)) ⌝ }
     ensures { λ r. ⌜ r ≡ recordByte start (t .init) (t .intlen) (t .size) (t .count) et ⌝ }
 {
     let r = cheby::record_at(t.init, t.intlen, et, t.count);
+    8 * (start - 1) + 8 * (t.size * r) as usize
+}
+
+// The same of fewer than 2 ^ 31 records.
+fn plain_byte(kernel: &[u8], start: usize, t: Trailer, et: f64) -> usize
+    requires { ⌜ (1 ≤ start) × (1 ≤ t .count) × (byteOf start + 8 * (t .count * t .size) ≤ length (now kernel)) × (t .count < 2 ^ 31) ⌝ }
+    ensures { λ r. ⌜ r ≡ recordByte start (t .init) (t .intlen) (t .size) (t .count) et ⌝ }
+{
+    let r = cheby::record_of_few(t.init, t.intlen, et, t.count);
     8 * (start - 1) + 8 * (t.size * r) as usize
 }
 
@@ -641,8 +735,8 @@ fn value(kernel: &[u8], start: usize, kind: Kind, number: u32, et: f64) -> Evalu
     }
 }
 
-// Segment number `number`, evaluated at et on the kernel lent now.
-pub fn evaluate(kernel: &[u8], family: Family, s: Segment, number: u32, et: f64) -> Evaluated
+// Segment number `number`, evaluated at et on the kernel lent now, by the tests themselves.
+fn evaluate_any(kernel: &[u8], family: Family, s: Segment, number: u32, et: f64) -> Evaluated
     ensures { λ r. ⌜ r ≡ evaluated family (now (kernel .entry)) s number et ⌝ }
 {
     let kind = s.kind;
@@ -653,4 +747,62 @@ pub fn evaluate(kernel: &[u8], family: Family, s: Segment, number: u32, et: f64)
         return Evaluated::Refused(Refusal::TableUnfit);
     }
     value(kernel, start_of(s), kind, number, et)
+}
+
+// The segment is of type 3, which SPK alone has.
+fn is_three(family: Family, s: Segment) -> bool
+    ensures { λ r. ⌜ (r ≡ true → formOf family (s .«data_type») ≡ Three) ⌝ }
+{
+    if s.data_type != 3 {
+        return false;
+    }
+    match family {
+        Family::Spk => true,
+        Family::Pck => false,
+    }
+}
+
+// Segment number `number`, evaluated at et on the kernel lent now. Types 2 and 3 that plainly fit are evaluated here, the answer made in place; the
+// segment is copied only where it goes on as a whole.
+pub fn evaluate(kernel: &[u8], family: Family, s: Segment, number: u32, et: f64) -> Evaluated
+    ensures { λ r. ⌜ r ≡ evaluated family (now (kernel .entry)) s number et ⌝ }
+{
+    let kind = s.kind;
+    if s.data_type == 2 {
+        if let Kind::Type2 {
+            init,
+            intlen,
+            rsize,
+            count,
+        } = kind {
+            let t = Trailer::of_records(init, intlen, rsize, count);
+            if plainly_fits(kernel, 3, s, t) {
+                let p = plain_byte(kernel, start_of(s), t, et);
+                if cheby::no_radius(kernel, p) {
+                    return Evaluated::Refused(Refusal::ZeroRadius(number));
+                }
+                let c = plain_coefficients(3, t.size);
+                return Evaluated::State(cheby::state2_at(kernel, p, c, et));
+            }
+        }
+        let own = s;
+        let other = evaluate_any(kernel, family, own, number, et);
+        return other;
+    }
+    if let Kind::Type3 {
+        init,
+        intlen,
+        rsize,
+        count,
+    } = kind {
+        let t = Trailer::of_records(init, intlen, rsize, count);
+        if is_three(family, s) && plainly_fits(kernel, 6, s, t) {
+            let p = plain_byte(kernel, start_of(s), t, et);
+            let c = plain_coefficients(6, t.size);
+            return Evaluated::State(cheby::state3_at(kernel, p, c, et));
+        }
+    }
+    let own = s;
+    let other = evaluate_any(kernel, family, own, number, et);
+    other
 }

@@ -1,24 +1,23 @@
 -- Laws of the definitions of `Finding`: one for each way through the code, and that what is found so is what `Asking` and `Alone` define. Assumes nothing.
 use mathlib.Core.Path.{_≡_, refl, sym, ap, ap₂, _∙_}
-use mathlib.Core.Bool.{Bool, true, false, cond, _&&_, _||_}
-use mathlib.Core.List.{List, [], _∷_}
-use Prim.Native.Nat.{ℕ, zero, _≤_, _<_, zero-le}
+use mathlib.Core.Bool.{Bool, true, false, cond, _&&_, _||_, false≢true}
+use mathlib.Core.List.{List, []}
+use Prim.Native.Nat.{ℕ, _≤_, _<_}
 use native.Mathlib.Omega.{arith}
 use lib.Dec.{ltb, leb}
 use lib.Ieee.{isNan, Float}
 use borrow.Author.Tests.{lt-ltb, le-ltb, ltb-true, ltb-false, leb-true, leb-false}
-use Rattle.bits.proofs.Tests.{by-test}
+use Rattle.bits.proofs.Tests.{by-test, or-first, or-second}
 use Rattle.frame.specs.declared.State.{State}
 use Rattle.refusal.specs.declared.Refusal.{Refusal}
 use Rattle.refusal.specs.declared.Refusal.the-variants.{TableUnfit, EpochNan}
-use Rattle.refusal.specs.Order.{case, firstOf}
 use Rattle.segment.specs.declared.Segment.{Segment}
 use Rattle.segment.specs.declared.Evaluated.{Evaluated}
 use Rattle.segment.specs.declared.Evaluated.the-variants as evaluation
 use Rattle.table.specs.declared.Choice.{Choice}
 use Rattle.table.specs.declared.Choice.the-variants.{At, Nothing}
 use Rattle.table.specs.Segments.{seg, emptySegment}
-use Rattle.table.specs.Steps.{segOr, leftOf, placeIn, Within, counted}
+use Rattle.table.specs.Steps.{segOr, placeIn, Within, counted}
 use Rattle.table.specs.Choosing.{lastIn, orElse}
 use Rattle.table.proofs.Last.{last-chosen}
 use Rattle.chain.specs.Step.{Evaluation}
@@ -35,11 +34,11 @@ use Rattle.spk.specs.Choosing.{recall, lastForward, lastReversed, forwar
 use Rattle.spk.specs.Answers.{refusedAnswer, sameAnswer, settled, negatedOf, lessOf, differenceOf}
 use Rattle.spk.specs.Asking.{legFrom, chained, backward, foundBy, answerTo, asked}
 use Rattle.spk.proofs.Order.{asked-same, asked-unfit, asked-nan, asked-by}
-use Rattle.spk.specs.Finding.{placeKept, recalledBy, backBy, looked, answeredBy, askedWith, aloneWith}
+use Rattle.spk.specs.Finding.{placeKept, recalledBy, isFailed, isEarly, earlyAnswer, aloneWith}
 use Rattle.spk.specs.Alone.{aloneAnswer}
 use Rattle.spk.proofs.Single.{alone-unfit, alone-nan, alone-none, alone-some}
 use Rattle.table.proofs.Limits.{counted-all}
-use Rattle.table.proofs.Choices.{or-yes, left-else, or-at, within-chosen}
+use Rattle.table.proofs.Choices.{or-yes, within-chosen}
 use Rattle.chain.proofs.Walks.{ahead, begin-told}
 
 -- ---- the remembered segment
@@ -58,62 +57,46 @@ module _ (q : Question) (s : Segment) (i n : ℕ) where
 
 -- ---- the tests before the choice
 module _ (limit n : ℕ) (q : Question) where
-  looking : Bool → Bool → Bool → ℕ
-  looking a b d = cond (a || (b || d)) zero n
+  testing : Bool → Bool → Bool → Bool
+  testing a b d = a || (b || d)
 
-  pub looked-same : isSame q ≡ true → zero ≡ looked limit n q
-  unfolding looked looking
-  looked-same e = sym (ap (λ (a : Bool). looking a (ltb limit n) (isNan (q .et))) e)
+  pub early-same : isSame q ≡ true → true ≡ isEarly limit n q
+  unfolding isEarly testing
+  early-same e = sym (ap (λ (a : Bool). testing a (ltb limit n) (isNan (q .et))) e)
 
-  pub looked-over : isSame q ≡ false → limit < n → zero ≡ looked limit n q
-  unfolding looked looking
-  looked-over e l = sym (ap₂ (λ (a b : Bool). looking a b (isNan (q .et))) e (lt-ltb limit n l))
+  pub early-over : isSame q ≡ false → limit < n → true ≡ isEarly limit n q
+  unfolding isEarly testing
+  early-over e l = sym (ap₂ (λ (a b : Bool). testing a b (isNan (q .et))) e (lt-ltb limit n l))
 
-  pub looked-nan : isSame q ≡ false → n ≤ limit → isNan (q .et) ≡ true → zero ≡ looked limit n q
-  unfolding looked looking
-  looked-nan e l d = sym (ap₂ (λ (a b : Bool). looking a b (isNan (q .et))) e (le-ltb limit n l) ∙ ap (looking false false) d)
+  early-last : isSame q ≡ false → n ≤ limit → isNan (q .et) ≡ isEarly limit n q
+  unfolding isEarly testing
+  early-last e l = sym (ap₂ (λ (a b : Bool). testing a b (isNan (q .et))) e (le-ltb limit n l))
 
-  pub looked-all : isSame q ≡ false → n ≤ limit → isNan (q .et) ≡ false → n ≡ looked limit n q
-  unfolding looked looking
-  looked-all e l d = sym (ap₂ (λ (a b : Bool). looking a b (isNan (q .et))) e (le-ltb limit n l) ∙ ap (looking false false) d)
+  pub early-nan : isSame q ≡ false → n ≤ limit → isNan (q .et) ≡ true → true ≡ isEarly limit n q
+  early-nan e l d = sym d ∙ early-last e l
 
-  -- what is looked at is within the limit
-  pub looked-most : looked limit n q ≤ limit
-  unfolding looked looking
-  looked-most = go (isSame q) (ltb limit n) (isNan (q .et)) refl
-    where
-      go : (a b d : Bool) → ltb limit n ≡ b → looking a b d ≤ limit
-      go true b d e = zero-le
-      go false true d e = zero-le
-      go false false true e = zero-le
-      go false false false e = ltb-false limit n e
+  pub early-no : isSame q ≡ false → n ≤ limit → isNan (q .et) ≡ false → false ≡ isEarly limit n q
+  early-no e l d = sym d ∙ early-last e l
 
-module _ (limit : ℕ) (ev : Evaluation) (n : ℕ) (m : Memory) (q : Question) (c : Choice) (s : Segment) (a : Answer) where
-  tests : Bool → Bool → Bool → Asked
-  tests x y z =
-      cond x (record { answer = sameAnswer; memory = m })
-      (firstOf (case y TableUnfit ∷ case z EpochNan ∷ []) (λ r. record { answer = refusedAnswer r; memory = m }) (answeredBy ev m q c s a))
+  answering : Bool → Bool → Answer
+  answering a b = cond a sameAnswer (cond b (refusedAnswer TableUnfit) (refusedAnswer EpochNan))
 
-  pub with-same : isSame q ≡ true → record { answer = sameAnswer; memory = m } ≡ askedWith limit ev n m q c s a
-  unfolding askedWith tests
-  with-same e = sym (ap (λ (x : Bool). tests x (ltb limit n) (isNan (q .et))) e)
+  pub answer-same : isSame q ≡ true → sameAnswer ≡ earlyAnswer limit n q
+  unfolding earlyAnswer answering
+  answer-same e = sym (ap (λ (a : Bool). answering a (ltb limit n)) e)
 
-  pub with-over : isSame q ≡ false → limit < n → record { answer = refusedAnswer TableUnfit; memory = m } ≡ askedWith limit ev n m q c s a
-  unfolding askedWith tests
-  with-over e l = sym (ap₂ (λ (x y : Bool). tests x y (isNan (q .et))) e (lt-ltb limit n l))
+  pub answer-over : isSame q ≡ false → limit < n → refusedAnswer TableUnfit ≡ earlyAnswer limit n q
+  unfolding earlyAnswer answering
+  answer-over e l = sym (ap₂ answering e (lt-ltb limit n l))
 
-  pub with-nan : isSame q ≡ false → n ≤ limit → isNan (q .et) ≡ true → record { answer = refusedAnswer EpochNan; memory = m } ≡ askedWith limit ev n m q c s a
-  unfolding askedWith tests
-  with-nan e l d = sym (ap₂ (λ (x y : Bool). tests x y (isNan (q .et))) e (le-ltb limit n l) ∙ ap (tests false false) d)
-
-  pub with-choice : isSame q ≡ false → n ≤ limit → isNan (q .et) ≡ false → answeredBy ev m q c s a ≡ askedWith limit ev n m q c s a
-  unfolding askedWith tests
-  with-choice e l d = sym (ap₂ (λ (x y : Bool). tests x y (isNan (q .et))) e (le-ltb limit n l) ∙ ap (tests false false) d)
+  pub answer-nan : isSame q ≡ false → n ≤ limit → refusedAnswer EpochNan ≡ earlyAnswer limit n q
+  unfolding earlyAnswer answering
+  answer-nan e l = sym (ap₂ answering e (le-ltb limit n l))
 
 -- ---- the forward choice
 module _ (segs : List Segment) (n : ℕ) (q : Question) where
   -- what the remembered number gives, from the segment that was read for it
-  recall-told : (m : Memory) → recalledBy q (segOr segs n (placeKept m n)) (placeKept m n) n ≡ recall segs n m q
+  pub recall-told : (m : Memory) → recalledBy q (segOr segs n (placeKept m n)) (placeKept m n) n ≡ recall segs n m q
   unfolding recalledBy segOr recall
   recall-told Blank = ap (λ (b : Bool). cond (b && serves q (cond b (seg segs n) emptySegment)) (At n) Nothing) (le-ltb n n (omega arith))
   recall-told (Kept i) = go (ltb i n)
@@ -122,17 +105,20 @@ module _ (segs : List Segment) (n : ℕ) (q : Question) where
       go true = refl
       go false = refl
 
-  pub choice-told : (m : Memory) → let kept = recalledBy q (segOr segs n (placeKept m n)) (placeKept m n) n in orElse kept (lastIn (hits q) segs (leftOf kept n)) ≡ forwardIn segs n m q
-  unfolding forwardIn
-  choice-told m =
-      sym (left-else (recalledBy q (segOr segs n (placeKept m n)) (placeKept m n) n) (lastIn (hits q) segs) n)
-      ∙ ap (λ (c : Choice). orElse c (lastIn (hits q) segs n)) (recall-told m)
-
 -- ---- the chain
+pub failed-first : (a b : Evaluated) → isFailed a ≡ true → a ≡ differenceOf a b
+unfolding differenceOf
+failed-first (evaluation.Refused r) b e = refl
+failed-first (evaluation.State s) b e = absurd (false≢true e)
+
 module _ (ev : Evaluation) (segs : List Segment) (n : ℕ) where
   pub chain-told : (q : Question) → differenceOf (ahead ev segs n chainLimit (begin (legFrom q))) (ahead ev segs n chainLimit (begin (legFrom (swapped q)))) ≡ chained ev segs n q
   unfolding chained
   chain-told q = ap₂ differenceOf (begin-told ev segs n (legFrom q)) (begin-told ev segs n (legFrom (swapped q)))
+
+  -- the target's refusal is the chain's
+  pub chain-failed : (q : Question) → isFailed (ahead ev segs n chainLimit (begin (legFrom q))) ≡ true → ahead ev segs n chainLimit (begin (legFrom q)) ≡ chained ev segs n q
+  chain-failed q e = failed-first (ahead ev segs n chainLimit (begin (legFrom q))) (ahead ev segs n chainLimit (begin (legFrom (swapped q)))) e ∙ chain-told q
 
 -- ---- what is chosen, and the answer
 module _ (segs : List Segment) (n : ℕ) where
@@ -143,7 +129,7 @@ module _ (segs : List Segment) (n : ℕ) where
   within-else (At i) b x y = x
   within-else Nothing b x y = y
 
-  recall-within : (m : Memory) (q : Question) → Within n (recall segs n m q)
+  pub recall-within : (m : Memory) (q : Question) → Within n (recall segs n m q)
   unfolding recall
   recall-within Blank q = tt
   recall-within (Kept i) q = go (ltb i n) (serves q (seg segs i)) refl
@@ -157,40 +143,75 @@ module _ (segs : List Segment) (n : ℕ) where
   unfolding forwardIn
   forward-within m q = within-else (recall segs n m q) (lastForward segs n q) (recall-within m q) (last-within q)
 
-module _ (ev : Evaluation) (segs : List Segment) (n : ℕ) (q : Question) where
-  -- reversed, else chained: the chain goes over no segment where there is a choice
-  back-by : (c : Choice) → Within n c → backBy ev c (segOr segs n (placeIn c n)) q (chained ev segs (leftOf c n) q) ≡ answerTo (backward ev segs n q c)
-  back-by (At i) l = ap (λ (s : Segment). backBy ev (At i) s q (chained ev segs zero q)) (or-at segs n i l)
-  back-by Nothing l = refl
+-- a choice of a number below n, from its number; none, from n
+pub at-place : (n : ℕ) (c : Choice) → placeIn c n < n → c ≡ At (placeIn c n)
+at-place n (At i) l = refl
+at-place n Nothing l = absurd (omega (arith, l))
 
-  pub back-told : let c = lastIn (hits (swapped q)) segs n in backBy ev c (segOr segs n (placeIn c n)) q (chained ev segs (leftOf c n) q) ≡ answerTo (backward ev segs n q (lastReversed segs n q))
-  back-told = back-by (lastIn (hits (swapped q)) segs n) (last-within segs n (swapped q))
+pub no-place : (n : ℕ) (c : Choice) → Within n c → n ≤ placeIn c n → c ≡ Nothing
+no-place n (At i) w l = absurd (omega (arith, w, l))
+no-place n Nothing w l = refl
+
+module _ (segs : List Segment) (n : ℕ) (m : Memory) (q : Question) where
+  abbrev kept : Choice
+  kept = recall segs n m q
+
+  -- forward: the remembered segment, or the scan's
+  pub choice-kept : placeIn kept n < n → kept ≡ forwardIn segs n m q
+  unfolding forwardIn
+  choice-kept l = at-place n kept l ∙ sym (ap (λ (c : Choice). orElse c (lastForward segs n q)) (at-place n kept l))
+
+  pub choice-last : n ≤ placeIn kept n → lastIn (hits q) segs n ≡ forwardIn segs n m q
+  unfolding forwardIn
+  choice-last l = sym (ap (λ (c : Choice). orElse c (lastForward segs n q)) (no-place n kept (recall-within segs n m q) l))
+
+module _ (ev : Evaluation) (segs : List Segment) (n : ℕ) (q : Question) where
+  abbrev back : Choice
+  back = lastIn (hits (swapped q)) segs n
+
+  -- reversed
+  pub back-at : placeIn back n < n → let i = placeIn back n in settled (Reversed i) (negatedOf (ev (seg segs i) i (q .et))) ≡ answerTo (backward ev segs n q (lastReversed segs n q))
+  back-at l = sym (ap (λ (c : Choice). answerTo (backward ev segs n q c)) (at-place n back l))
+
+  -- chained
+  pub back-none : n ≤ placeIn back n → settled Chained (chained ev segs n q) ≡ answerTo (backward ev segs n q (lastReversed segs n q))
+  back-none l = sym (ap (λ (c : Choice). answerTo (backward ev segs n q c)) (no-place n back (last-within segs n (swapped q)) l))
 
 -- ---- the question
 module _ (limit : ℕ) (ev : Evaluation) (segs : List Segment) (n : ℕ) (m : Memory) (q : Question) where
-  abbrev back : ℕ → Answer
-  back j = answerTo (backward ev segs j q (lastReversed segs j q))
-
-  -- with the choice among the first j
-  abbrev given : ℕ → Asked
-  given j = askedWith limit ev n m q (forwardIn segs j m q) (segOr segs j (placeIn (forwardIn segs j m q) j)) (back (leftOf (forwardIn segs j m q) j))
-
-  answered : (c : Choice) → Within n c → answeredBy ev m q c (segOr segs n (placeIn c n)) (back (leftOf c n)) ≡ record { answer = answerTo (foundBy ev segs n q c); memory = remembered segs m c }
-  answered (At i) l = ap (λ (s : Segment). answeredBy ev m q (At i) s (back zero)) (or-at segs n i l)
-  answered Nothing l = refl
-
-  pub asked-told : given (looked limit n q) ≡ asked limit ev segs n m q
-  asked-told =
+  pub asked-early : isEarly limit n q ≡ true → record { answer = earlyAnswer limit n q; memory = m } ≡ asked limit ev segs n m q
+  asked-early e =
       by-test (isSame q)
-      (λ e. sym (with-same limit ev n m q _ _ _ e) ∙ sym (asked-same limit ev segs n m q _ e))
-      (λ e. by-test (ltb limit n)
-      (λ o. sym (with-over limit ev n m q _ _ _ e (ltb-true limit n o)) ∙ sym (asked-unfit limit ev segs n m q _ e (ltb-true limit n o)))
-      (λ o. by-test (isNan (q .et))
-      (λ d. sym (with-nan limit ev n m q _ _ _ e (ltb-false limit n o) d) ∙ sym (asked-nan limit ev segs n m q _ e (ltb-false limit n o) d))
-      (λ d. ap given (sym (looked-all limit n q e (ltb-false limit n o) d))
-      ∙ sym (with-choice limit ev n m q _ _ _ e (ltb-false limit n o) d)
-      ∙ answered (forwardIn segs n m q) (forward-within segs n m q)
-      ∙ asked-by limit ev segs n m q (forwardIn segs n m q) refl e (ltb-false limit n o) d)))
+      (λ s. ap (λ (a : Answer). record { answer = a; memory = m }) (sym (answer-same limit n q s)) ∙ sym (asked-same limit ev segs n m q _ s))
+      (λ s. by-test (ltb limit n)
+      (λ o. ap (λ (a : Answer). record { answer = a; memory = m }) (sym (answer-over limit n q s (ltb-true limit n o))) ∙ sym (asked-unfit limit ev segs n m q _ s (ltb-true limit n o)))
+      (λ o. ap (λ (a : Answer). record { answer = a; memory = m }) (sym (answer-nan limit n q s (ltb-false limit n o)))
+      ∙ sym (asked-nan limit ev segs n m q _ s (ltb-false limit n o) (early-last limit n q s (ltb-false limit n o) ∙ e))))
+
+  -- no test before the choice decides: what they say
+  late-same : isEarly limit n q ≡ false → isSame q ≡ false
+  unfolding isEarly
+  late-same e = or-first (isSame q) _ e
+
+  pub late-fits : isEarly limit n q ≡ false → n ≤ limit
+  unfolding isEarly
+  late-fits e = ltb-false limit n (or-first (ltb limit n) _ (or-second (isSame q) _ e))
+
+  late-nan : isEarly limit n q ≡ false → isNan (q .et) ≡ false
+  unfolding isEarly
+  late-nan e = or-second (ltb limit n) _ (or-second (isSame q) _ e)
+
+  pub late : isEarly limit n q ≡ false → (c : Choice) → forwardIn segs n m q ≡ c → record { answer = answerTo (foundBy ev segs n q c); memory = remembered segs m c } ≡ asked limit ev segs n m q
+  late e c f = asked-by limit ev segs n m q c f (late-same e) (late-fits e) (late-nan e)
+
+  -- forward
+  pub asked-at : isEarly limit n q ≡ false → let i = placeIn (forwardIn segs n m q) n in i < n
+      → record { answer = settled (Forward i) (ev (seg segs i) i (q .et)); memory = rememberedAt m i (seg segs i) } ≡ asked limit ev segs n m q
+  asked-at e l = late e (At (placeIn (forwardIn segs n m q) n)) (at-place n (forwardIn segs n m q) l)
+
+  -- backward
+  pub asked-back : isEarly limit n q ≡ false → n ≤ placeIn (forwardIn segs n m q) n → record { answer = answerTo (backward ev segs n q (lastReversed segs n q)); memory = m } ≡ asked limit ev segs n m q
+  asked-back e l = late e Nothing (no-place n (forwardIn segs n m q) (forward-within segs n m q) l)
 
 -- ---- the ways of the code
 pub unchanged-as : {r : Asked} {x y : Answer} {m : Memory} → r ≡ record { answer = x; memory = m } → x ≡ y → r ≡ record { answer = y; memory = m }
@@ -203,19 +224,6 @@ difference-refused a b r e = sym (ap (λ (x : Evaluated). differenceOf x b) e)
 pub difference-state : (a b : Evaluated) (s : State) → a ≡ evaluation.State s → lessOf s b ≡ differenceOf a b
 unfolding differenceOf
 difference-state a b s e = sym (ap (λ (x : Evaluated). differenceOf x b) e)
-
-module _ (ev : Evaluation) (c : Choice) (s : Segment) (q : Question) where
-  pub back-at : (e : Evaluated) (i : ℕ) → c ≡ At i → settled (Reversed i) (negatedOf (ev s i (q .et))) ≡ backBy ev c s q e
-  back-at e i h = sym (ap (λ (x : Choice). backBy ev x s q e) h)
-
-  pub back-none : (e : Evaluated) → c ≡ Nothing → settled Chained e ≡ backBy ev c s q e
-  back-none e h = sym (ap (λ (x : Choice). backBy ev x s q e) h)
-
-  pub answered-at : (m : Memory) (a : Answer) (i : ℕ) → c ≡ At i → record { answer = settled (Forward i) (ev s i (q .et)); memory = rememberedAt m i s } ≡ answeredBy ev m q c s a
-  answered-at m a i h = sym (ap (λ (x : Choice). answeredBy ev m q x s a) h)
-
-  pub answered-none : (m : Memory) (a : Answer) → c ≡ Nothing → record { answer = a; memory = m } ≡ answeredBy ev m q c s a
-  answered-none m a h = sym (ap (λ (x : Choice). answeredBy ev m q x s a) h)
 
 -- ---- a segment by its number
 module _ (limit : ℕ) (ev : Evaluation) (segs : List Segment) (n i : ℕ) (et : Float) where

@@ -5,13 +5,12 @@ ghost use Rattle.daf.specs.declared.Family.the-variants.{Spk};
 ghost use Rattle.segment.specs.Evaluating.{evaluated};
 ghost use Rattle.table.specs.Places.{lentLimit, limitOf};
 ghost use Rattle.table.specs.Choosing.{orElse};
-ghost use Rattle.table.specs.Steps.{Within};
 ghost use Rattle.spk.specs.Questions.{isSame, swapped, isPair, hits, serves};
 ghost use Rattle.spk.specs.Choosing.{rememberedAt};
 ghost use Rattle.spk.specs.Answers.{answerOf, refusedAnswer, sameAnswer, settled, negatedOf, lessOf, differenceOf};
 ghost use Rattle.spk.specs.Asking.{legFrom};
 ghost use Rattle.spk.specs.Turning.{frameOf, isRefused, turnedTo, turnedAnswer, turnedAsked};
-ghost use Rattle.spk.specs.Finding.{hitAt, placeKept, recalledBy, backBy, looked, askedWith, aloneWith};
+ghost use Rattle.spk.specs.Finding.{hitAt, placeKept, recalledBy, isFailed, isEarly, earlyAnswer, aloneWith};
 ghost use Rattle.chain.specs.Steps.{begin};
 use chain::Leg;
 use chain::Next;
@@ -120,11 +119,25 @@ impl Question {
 }
 
 impl Memory {
-    // What is remembered after segment i was chosen forward.
-    fn after(self, i: usize, s: Segment) -> Memory
+    // The same, made anew: the bytes between the tag and the number aren't carried along.
+    fn again(self) -> Memory
+        ensures { λ r. ⌜ r ≡ self ⌝ }
+    {
+        match self {
+            Memory::Blank => Memory::Blank,
+            Memory::Kept(i) => Memory::Kept(i),
+        }
+    }
+
+    // What is remembered after segment i was chosen forward: it, if it is marked, whatever evaluating it comes to.
+    pub fn after(self, i: usize, s: Segment) -> Memory
         ensures { λ r. ⌜ r ≡ rememberedAt self i s ⌝ }
     {
-        if s.marked { Memory::Kept(i) } else { self }
+        if s.marked {
+            Memory::Kept(i)
+        } else {
+            self.again()
+        }
     }
 }
 
@@ -245,13 +258,12 @@ fn evaluated_at(kernel: &[u8], i: usize, s: Segment, et: f64) -> Answer
     )
 }
 
-// Segment i, which was chosen forward, answers; and it is remembered if it is marked, whatever evaluating it comes to.
-fn forward(kernel: &[u8], memory: Memory, i: usize, s: Segment, et: f64) -> Asked
+// Segment i, which was chosen forward, answers; `kept` is what is remembered after it.
+pub fn forward(kernel: &[u8], kept: Memory, i: usize, s: Segment, q: Question) -> Asked
     requires { ⌜ i < lentLimit ⌝ }
-    ensures { λ r. ⌜ r ≡ record { answer = settled (Way.Forward i) (evaluated Spk (now (kernel .entry)) s i et); memory = rememberedAt memory i s } ⌝ }
+    ensures { λ r. ⌜ r ≡ record { answer = settled (Way.Forward i) (evaluated Spk (now (kernel .entry)) s i (q .et)); memory = kept } ⌝ }
 {
-    let answer = evaluated_at(kernel, i, s, et);
-    let kept = memory.after(i, s);
+    let answer = evaluated_at(kernel, i, s, q.et);
     Asked {
         answer: answer,
         memory: kept,
@@ -259,21 +271,29 @@ fn forward(kernel: &[u8], memory: Memory, i: usize, s: Segment, et: f64) -> Aske
 }
 
 // Segment i, which was chosen reversed, answers.
-fn reversed(kernel: &[u8], i: usize, s: Segment, et: f64) -> Answer
+pub fn reversed(kernel: &[u8], i: usize, s: Segment, q: Question) -> Answer
     requires { ⌜ i < lentLimit ⌝ }
-    ensures { λ r. ⌜ r ≡ settled (Way.Reversed i) (negatedOf (evaluated Spk (now (kernel .entry)) s i et)) ⌝ }
+    ensures { λ r. ⌜ r ≡ settled (Way.Reversed i) (negatedOf (evaluated Spk (now (kernel .entry)) s i (q .et))) ⌝ }
 {
-    let e = segment::evaluate(kernel, Family::Spk, s, i as u32, et);
+    let e = segment::evaluate(kernel, Family::Spk, s, i as u32, q.et);
     Answer::settled(Way::Reversed(i), negated(e))
 }
 
+// The answer by the chain, of what it came to.
+pub fn by_chain(e: Evaluated) -> Answer
+    ensures { λ r. ⌜ r ≡ settled Way.Chained e ⌝ }
+{
+    Answer::settled(Way::Chained, e)
+}
+
 // An answer that leaves the memory.
-fn unchanged(answer: Answer, memory: Memory) -> Asked
+pub fn unchanged(answer: Answer, memory: Memory) -> Asked
     ensures { λ r. ⌜ r ≡ record { answer = answer; memory = memory } ⌝ }
 {
+    let kept = memory.again();
     Asked {
         answer: answer,
-        memory: memory,
+        memory: kept,
     }
 }
 
@@ -339,49 +359,38 @@ pub fn difference(a: Evaluated, b: Evaluated) -> Evaluated
     }
 }
 
-// The answer by the reversed choice c, which is s, or by what the chain came to.
-pub fn back_by(kernel: &[u8], c: Choice, s: Segment, q: Question, e: Evaluated) -> Answer
-    requires { ⌜ Within lentLimit c ⌝ }
-    ensures { λ r. ⌜ r ≡ backBy (evaluated Spk (now (kernel .entry))) c s q e ⌝ }
+// What was evaluated is a refusal.
+pub fn is_failed(e: Evaluated) -> bool
+    ensures { λ r. ⌜ r ≡ isFailed e ⌝ }
 {
-    match c {
-        Choice::At(i) => reversed(kernel, i, s, q.et),
-        Choice::Nothing => Answer::settled(Way::Chained, e),
+    match e {
+        Evaluated::Refused(_) => true,
+        Evaluated::State(_) => false,
     }
 }
 
-// How many segments are looked at: none where the question is decided before.
-pub fn looked(places: usize, n: usize, q: Question) -> usize
-    ensures { λ r. ⌜ r ≡ looked (limitOf places) n q ⌝ }
+// A test before any segment decides the question.
+pub fn is_early(places: usize, n: usize, q: Question) -> bool
+    ensures { λ r. ⌜ r ≡ isEarly (limitOf places) n q ⌝ }
 {
     if q.is_same() {
-        return 0;
+        return true;
     }
     if Table::LENT < n {
-        return 0;
+        return true;
     }
     if places < n {
-        return 0;
+        return true;
     }
     if q.et != q.et {
-        return 0;
+        return true;
     }
-    n
+    false
 }
 
-// The answer by the tests before any segment, else by the forward choice c, which is s, else the answer a.
-pub fn settle(
-    kernel: &[u8],
-    places: usize,
-    n: usize,
-    memory: Memory,
-    q: Question,
-    c: Choice,
-    s: Segment,
-    a: Answer,
-) -> Asked
-    requires { ⌜ Within lentLimit c ⌝ }
-    ensures { λ r. ⌜ r ≡ askedWith (limitOf places) (evaluated Spk (now (kernel .entry))) n memory q c s a ⌝ }
+// The answer that it then has.
+pub fn early(places: usize, n: usize, memory: Memory, q: Question) -> Asked
+    ensures { λ r. ⌜ r ≡ record { answer = earlyAnswer (limitOf places) n q; memory = memory } ⌝ }
 {
     if q.is_same() {
         return unchanged(Answer::same(), memory);
@@ -392,13 +401,7 @@ pub fn settle(
     if places < n {
         return unchanged(Answer::refused(Refusal::TableUnfit), memory);
     }
-    if q.et != q.et {
-        return unchanged(Answer::refused(Refusal::EpochNan), memory);
-    }
-    match c {
-        Choice::At(i) => forward(kernel, memory, i, s, q.et),
-        Choice::Nothing => unchanged(a, memory),
-    }
+    unchanged(Answer::refused(Refusal::EpochNan), memory)
 }
 
 // An answer in the frame that it is asked in. The memory stays.

@@ -1,16 +1,9 @@
 -- `chain::look` meets its contract: an answer for each way. Assumes nothing.
 use mathlib.Core.Path.{_∙_, sym}
-use borrow.Author.Tests.{not-true, not-false}
-use Rattle.chain.proofs.Steps.{look-past, look-seen}
+use Rattle.chain.proofs.Steps.{look-seen}
 use borrow.Author.Needs.{needs}
 use Rattle.chain.proofs.look.Statement.{statement}
 use Rattle.chain.proofs.look.Tie as tie
-
-leaves-requires : tie.Need-leaves-requires
-leaves-requires c κs = search needs
-
-returns : tie.Need-returns
-returns c = look-past _ _ _ _ _ (sym (c .before .leaves .ensures) ∙ not-true _ (c .if1 .taken))
 
 cast-evaluate : tie.Need-cast-evaluate
 cast-evaluate c = search needs
@@ -27,24 +20,11 @@ enum-known-e-2 c = search needs
 met-requires : tie.Need-met-requires
 met-requires c κs = search needs
 
-returns-2 : tie.Need-returns-2
-returns-2 c =
-    look-seen _ _ _ _ _ _ (sym (c .before .before .before .before .before .leaves .ensures) ∙ not-false _ (c .before .before .before .before .if1 .left)) (sym (c .before .before .before .evaluate .ensures) ∙ c .before .e .given .1)
+returns : tie.Need-returns
+returns c = look-seen _ _ _ _ _ _ (c .before .before .before .before .before .pre .1) (sym (c .before .before .before .evaluate .ensures) ∙ c .before .e .given .1)
 
-returns-3 : tie.Need-returns-3
-returns-3 c =
-    c .met .ensures ∙ look-seen _ _ _ _ _ _ (sym (c .before .before .before .before .before .before .leaves .ensures) ∙ not-false _ (c .before .before .before .before .before .if1 .left)) (sym (c .before .before .before .before .evaluate .ensures) ∙ c .before .before .e2 .given .1)
+returns-2 : tie.Need-returns-2
+returns-2 c = c .met .ensures ∙ look-seen _ _ _ _ _ _ (c .before .before .before .before .before .before .pre .1) (sym (c .before .before .before .before .evaluate .ensures) ∙ c .before .before .e2 .given .1)
 
 pub look-spec : {M : Type 1} → statement M
-look-spec =
-    tie.close
-    (tie.spec
-    leaves-requires
-    returns
-    cast-evaluate
-    evaluate-requires
-    enum-known-e
-    enum-known-e-2
-    met-requires
-    returns-2
-    returns-3)
+look-spec = tie.close (tie.spec cast-evaluate evaluate-requires enum-known-e enum-known-e-2 met-requires returns returns-2)

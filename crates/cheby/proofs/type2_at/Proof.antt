@@ -1,45 +1,23 @@
--- `cheby::type2_at` meets its contract: the series at their bytes are those of the record.
+-- `cheby::type2_at` meets its contract: RADIUS is asked first.
 -- Assumes nothing.
+use mathlib.Core.Path.{sym, _∙_}
+use native.Mathlib.Omega.{arith}
 use borrow.Author.Needs.{needs}
-use Rattle.cheby.proofs.Record.{type2-none, type2-some}
+use Rattle.cheby.proofs.Record.{refused-where}
 use Rattle.cheby.proofs.type2_at.Statement.{statement}
 use Rattle.cheby.proofs.type2_at.Tie as tie
 
-double-at-requires : tie.Need-double-at-requires
-double-at-requires c κs = search needs
-
-add-double-at : tie.Need-add-double-at
-add-double-at c = search needs
-
-double-at-requires-2 : tie.Need-double-at-requires-2
-double-at-requires-2 c κs = search needs
+no-radius-requires : tie.Need-no-radius-requires
+no-radius-requires c κs = search needs
 
 returns : tie.Need-returns
-returns c = type2-none _ _ _ _ (c .before .before .double-at .ensures) (c .before .double-at2 .ensures) (c .if1 .taken)
+returns c = sym (refused-where _ _ _ _ (sym (c .before .no-radius .ensures) ∙ c .if1 .taken))
 
-add-val-and-deriv : tie.Need-add-val-and-deriv
-add-val-and-deriv c = search needs
-
-val-and-deriv-requires : tie.Need-val-and-deriv-requires
-val-and-deriv-requires c κs = search needs
-
-times-requires : tie.Need-times-requires
-times-requires c κs = search needs
+state2-any-requires : tie.Need-state2-any-requires
+state2-any-requires c κs = (omega arith, sym (c .before .no-radius .ensures) ∙ c .if1 .left)
 
 returns-2 : tie.Need-returns-2
-returns-2 c =
-    let call = c .before .before .val-and-deriv .ensures in
-    type2-some _ _ _ _ (c .before .before .before .before .before .double-at .ensures) (c .before .before .before .before .double-at2 .ensures) (c .before .before .before .if1 .left) (call .0) (call .1) (c .times .ensures)
+returns-2 c = c .state2-any .ensures
 
 pub type2-at-spec : {M : Type 1} → statement M
-type2-at-spec =
-    tie.close
-    (tie.spec
-    double-at-requires
-    add-double-at
-    double-at-requires-2
-    returns
-    add-val-and-deriv
-    val-and-deriv-requires
-    times-requires
-    returns-2)
+type2-at-spec = tie.close (tie.spec no-radius-requires returns state2-any-requires returns-2)

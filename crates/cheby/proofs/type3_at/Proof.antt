@@ -14,26 +14,30 @@ add-double-at c = search needs
 double-at-requires-2 : tie.Need-double-at-requires-2
 double-at-requires-2 c κs = search needs
 
-add-val-only : tie.Need-add-val-only
-add-val-only c = search needs
+add-val-and-deriv : tie.Need-add-val-and-deriv
+add-val-and-deriv c = search needs
 
-val-only-requires : tie.Need-val-only-requires
-val-only-requires c κs = search needs
+val-and-deriv-requires : tie.Need-val-and-deriv-requires
+val-and-deriv-requires c κs = search needs
 
-add-val-only-2 : tie.Need-add-val-only-2
-add-val-only-2 c = search needs
+add-val-and-deriv-2 : tie.Need-add-val-and-deriv-2
+add-val-and-deriv-2 c = search needs
 
-mul-val-only : tie.Need-mul-val-only
-mul-val-only c = search needs
+mul-val-and-deriv : tie.Need-mul-val-and-deriv
+mul-val-and-deriv c = search needs
 
-add-val-only-3 : tie.Need-add-val-only-3
-add-val-only-3 c = search needs
+add-val-and-deriv-3 : tie.Need-add-val-and-deriv-3
+add-val-and-deriv-3 c = search needs
 
-val-only-requires-2 : tie.Need-val-only-requires-2
-val-only-requires-2 c κs = search needs
+val-and-deriv-requires-2 : tie.Need-val-and-deriv-requires-2
+val-and-deriv-requires-2 c κs = search needs
+
+joined-requires : tie.Need-joined-requires
+joined-requires c κs = search needs
 
 returns : tie.Need-returns
-returns c = type3-both _ _ _ _ (c .before .before .before .double-at .ensures) (c .before .before .double-at2 .ensures) (c .before .val-only .ensures) (c .val-only2 .ensures)
+returns c =
+    type3-both _ _ _ _ (c .before .before .before .before .double-at .ensures) (c .before .before .before .double-at2 .ensures) (c .before .before .val-and-deriv .ensures .0) (c .before .val-and-deriv2 .ensures .0) (c .joined .ensures)
 
 pub type3-at-spec : {M : Type 1} → statement M
 type3-at-spec =
@@ -42,10 +46,11 @@ type3-at-spec =
     double-at-requires
     add-double-at
     double-at-requires-2
-    add-val-only
-    val-only-requires
-    add-val-only-2
-    mul-val-only
-    add-val-only-3
-    val-only-requires-2
+    add-val-and-deriv
+    val-and-deriv-requires
+    add-val-and-deriv-2
+    mul-val-and-deriv
+    add-val-and-deriv-3
+    val-and-deriv-requires-2
+    joined-requires
     returns)

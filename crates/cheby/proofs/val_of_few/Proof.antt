@@ -1,7 +1,6 @@
 -- `cheby::val_of_few` meets its contract: no coefficient gives +0, and one itself.
 -- Assumes nothing.
 use mathlib.Core.Path.{_≡_, _∙_}
-use mathlib.Core.Bool.{false≢true}
 use native.Mathlib.Omega.{arith}
 use borrow.Author.Needs.{needs}
 use Rattle.cheby.specs.Cheby.{seriesAt}
@@ -12,7 +11,7 @@ zeros-requires : tie.Need-zeros-requires
 zeros-requires c κs = search needs
 
 row-at-requires : tie.Need-row-at-requires
-row-at-requires c κs = (omega arith, omega arith, λ e. absurd (false≢true e))
+row-at-requires c κs = (omega arith, omega arith)
 
 returns : tie.Need-returns
 unfolding seriesAt

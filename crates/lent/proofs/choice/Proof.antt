@@ -1,36 +1,27 @@
--- `lent::choice` meets its contract: a walk of its MIR, by hand: calls alone.
+-- `lent::choice` meets its contract: a walk of its MIR, by hand: two paths, by whether the remembered segment serves.
 -- Assumes nothing.
-use Rattle.lent.proofs.Walking.{ℕ, _≤_, Lft, Share, ftrue, flft, SProp, ent, Lfts, Fun, givenOf, tables, tablesOf, usize, yes, Is, uint-makes, uint-vals, uint-tells, owns, RefT, plain, sliceVal, ShrSlice, Room, slice-vals, shr-slice-tells, owned, nothing, Vals, onEntry, Meets, tripleOf, Triple, entered, cited, says, Stays, stay-none-slice, walkOf, goes-none-slice, Walks, ends-at, walked, walk-meets, needs, stay-none, goes-none, Atoms, URA, length, List, [], _∷_, refl, _≡_, named, w64, Val, vint, le-trans, Memory, Routine, Heap, WpFn, Tables, WpFn-mono, FmC, fmOf, Given, ‵, _⊛_, _$_, _∵_, !, qed, by, move, suffices, frame, done, ⋆, keep, split, join, fsplit, fjoin, look, init, forget, stop, from, load, returns, enter, alloc1, alloc0, params1, pass1, pass0, free1, free0, and-then, no-more, land}
+use Rattle.lent.proofs.Walking.{ℕ, _≤_, Lft, Share, ftrue, flft, fat, froom, fdies, SProp, ent, ltb-true, ltb-false, Lfts, Fun, givenOf, tables, tablesOf, usize, yes, Is, uint-makes, uint-vals, uint-tells, owns, RefT, plain, sliceVal, ShrSlice, Room, slice-vals, shr-slice-tells, owned, nothing, Vals, onEntry, Meets, tripleOf, Triple, entered, cited, says, Stays, stay-none-slice, walkOf, goes-none-slice, Walks, ends-at, walked, walk-meets, needs, stay-none, goes-none, Atoms, fullShare, URA, ltb, length, Bool, true, false, List, [], _∷_, refl, _≡_, named, w64, tyInt, tyBool, Val, vint, vbool, Memory, Routine, Heap, WpFn, Tables, Env, WpFn-mono, FmC, fmOf, Given, ‵, _⊛_, _$_, _∵_, !, qed, by, move, suffices, frame, done, ⋆, keep, split, join, rewrite, fsplit, fjoin, Item, Sq, runs, atRet, frees, prop, look, init, forget, stop, from, load, of-opd, assigns, returns, enter, alloc1, alloc0, params1, pass1, pass0, free1, free0, bin, and-then, no-more, land, first, exec, branches, skips, returns-within}
 use Rattle.segment.specs.declared.Segment.{Segment}
 use Rattle.table.specs.declared.Choice.{Choice}
 use Rattle.spk.specs.declared.Memory.{Memory as Remembered}
 use Rattle.spk.specs.declared.Question.{Question}
-use Rattle.table.proofs.Choices.{left-most}
-use Rattle.spk.proofs.Finding.{choice-told}
-use Rattle.spk.specs.Choosing.{forwardIn}
-use Rattle.table.specs.Steps.{segOr, leftOf}
-use Rattle.spk.specs.Finding.{placeKept, recalledBy}
-use Rattle.lent.proofs.Seg.{Seg, lawful}
-use Rattle.lent.proofs.Rows.{Cho, cho, cho-lawful, cho-makes, Mem, mmy, mmy-tells, mmy-lawful, mmy-makes, Que, que, que-tells, que-lawful, que-makes}
-use Rattle.lent.proofs.Calls.{ShrOwn, the-place-kept, the-segment-or, the-recalled, the-left-of, the-last-hit, the-or-else, calls-place-kept, calls-segment-or, calls-recalled, calls-left-of, calls-last-hit, calls-or-else, out-segment-or, out-recalled, out-last-hit, out-or-else}
-use Rattle.spk.proofs.place_kept.Symbol as d-place-kept
-use Rattle.spk.proofs.place_kept.Symbol.{name as #place-kept}
-use Rattle.spk.proofs.place_kept.Met as t-place-kept
-use Rattle.lent.proofs.segment_or.Symbol as d-segment-or
-use Rattle.lent.proofs.segment_or.Symbol.{name as #segment-or}
-use Rattle.lent.proofs.segment_or.Met as t-segment-or
-use Rattle.spk.proofs.recalled.Symbol as d-recalled
-use Rattle.spk.proofs.recalled.Symbol.{name as #recalled}
-use Rattle.spk.proofs.recalled.Met as t-recalled
-use Rattle.table.proofs.left_of.Symbol as d-left-of
-use Rattle.table.proofs.left_of.Symbol.{name as #left-of}
-use Rattle.table.proofs.left_of.Met as t-left-of
+use Rattle.spk.proofs.Finding.{choice-kept, choice-last}
+use Rattle.spk.specs.Choosing.{recall, forwardIn}
+use Rattle.table.specs.Steps.{placeIn}
+use Rattle.lent.proofs.choice.Code.Mir as body
+use Rattle.lent.proofs.Seg.{Seg, Tab-ty}
+use Rattle.lent.proofs.Rows.{Cho, Cho-ty, cho, cho-lawful, cho-makes, Mem, Mem-ty, mmy, mmy-tells, mmy-lawful, mmy-makes, Que, Que-ty, que, que-tells, que-lawful, que-makes}
+use Rattle.lent.proofs.Calls.{ShrOwn}
+use Rattle.lent.proofs.Calls.{the-recall, the-place-in, the-last-hit, calls-recall, calls-place-in, calls-last-hit, out-recall, out-last-hit}
+use Rattle.lent.proofs.recall.Symbol as d-recall
+use Rattle.lent.proofs.recall.Symbol.{name as #recall}
+use Rattle.lent.proofs.recall.Met as t-recall
+use Rattle.table.proofs.place_in.Symbol as d-place-in
+use Rattle.table.proofs.place_in.Symbol.{name as #place-in}
+use Rattle.table.proofs.place_in.Met as t-place-in
 use Rattle.lent.proofs.last_hit.Symbol as d-last-hit
 use Rattle.lent.proofs.last_hit.Symbol.{name as #last-hit}
 use Rattle.lent.proofs.last_hit.Met as t-last-hit
-use Rattle.table.proofs.or_else.Symbol as d-or-else
-use Rattle.table.proofs.or_else.Symbol.{name as #or-else}
-use Rattle.table.proofs.or_else.Met as t-or-else
 use Rattle.lent.proofs.choice.Key.{name as #self}
 use Rattle.lent.proofs.choice as f
 use Rattle.lent.proofs.choice.Statement as stated
@@ -44,8 +35,8 @@ module _ {M : Type 1} (𝓤 : URA M) (H : Heap 𝓤) (A : Atoms 𝓤) (W : Given
   abbrev Arg : Type 0
   Arg = RefT (List Segment) × (ℕ × (Remembered × (Question × (Unit {0}))))
 
-  abbrev a : Arg
-  a = (t, (n, (m, (x, tt))))
+  abbrev a₀ : Arg
+  a₀ = (t, (n, (m, (x, tt))))
 
   abbrev tv : Val
   tv = sliceVal (t .ptr) (length (t .now))
@@ -57,48 +48,78 @@ module _ {M : Type 1} (𝓤 : URA M) (H : Heap 𝓤) (A : Atoms 𝓤) (W : Given
   at = (tv ∷ [], (vint w64 n ∷ [], (mmy m ∷ [], (que x ∷ [], tt))))
 
   abbrev Post : Val → SProp 𝓤
-  Post = walkOf 𝓤 H A f.ended stayed (f.clauses 𝓤 H A mem run) .post ((κs, (q′, tt), tt, a, at), tt)
+  Post = walkOf 𝓤 H A f.ended stayed (f.clauses 𝓤 H A mem run) .post ((κs, (q′, tt), tt, a₀, at), tt)
 
   exits : (r : Choice) → r ≡ forwardIn (t .now) n m x → Is Cho r (cho r ∷ []) → ent 𝓤 (⋆ 𝓤 H A (‵ (ShrOwn Seg κ′ t) ∷ ‵ (flft κ′ q′) ∷ [])) (Post (cho r))
   exits r e is =
       qed W (‵ (ShrOwn Seg κ′ t) ∷ ‵ (flft κ′ q′) ∷ []) ∵
-      suffices ! _ (ends-at 𝓤 H A f.ended stayed (f.clauses 𝓤 H A mem run) W ((κs, (q′, tt), tt, a, at), tt) (cho r) r (tt, (tt, (tt, (tt, tt)))) (tt, (tt, (tt, (tt, tt))))) $ says ! e $
+      suffices ! _ (ends-at 𝓤 H A f.ended stayed (f.clauses 𝓤 H A mem run) W ((κs, (q′, tt), tt, a₀, at), tt) (cho r) r (tt, (tt, (tt, (tt, tt)))) (tt, (tt, (tt, (tt, tt))))) $ says ! e $
       nothing ! $ move ! (2 ∷ 0 ∷ []) $ join ! $ frame ! $
       nothing ! $ owned ! Que (Is Que) (que-makes 𝓤 H A W) x _ is-x $ fjoin ! $ owned ! Mem (Is Mem) (mmy-makes 𝓤 H A W) m _ is-m $ fjoin ! $ owned ! usize (Is usize) (uint-makes 𝓤 H A W w64) n _ is-n $ fjoin ! $ move ! (1 ∷ 0 ∷ []) $ fjoin ! $
       frame ! $ owned ! Cho (Is Cho) (cho-makes 𝓤 H A W) r _ is $ done !
 
-  module _ (𝓣 : Tables 𝓤 H) (known-place-kept : Triple 𝓤 (𝓣 .C #place-kept) (the-place-kept 𝓤 H A mem run)) (known-segment-or : Triple 𝓤 (𝓣 .C #segment-or) (the-segment-or 𝓤 H A mem run)) (known-recalled : Triple 𝓤 (𝓣 .C #recalled) (the-recalled 𝓤 H A mem run)) (known-left-of : Triple 𝓤 (𝓣 .C #left-of) (the-left-of 𝓤 H A mem run)) (known-last-hit : Triple 𝓤 (𝓣 .C #last-hit) (the-last-hit 𝓤 H A mem run)) (known-or-else : Triple 𝓤 (𝓣 .C #or-else) (the-or-else 𝓤 H A mem run)) where
+  abbrev c : Choice
+  c = recall (t .now) n m x
+
+  abbrev i : ℕ
+  i = placeIn c n
+
+  module _ (𝓣 : Tables 𝓤 H) (known-recall : Triple 𝓤 (𝓣 .C #recall) (the-recall 𝓤 H A mem run)) (known-place-in : Triple 𝓤 (𝓣 .C #place-in) (the-place-in 𝓤 H A mem run)) (known-last-hit : Triple 𝓤 (𝓣 .C #last-hit) (the-last-hit 𝓤 H A mem run)) where
     abbrev fm : FmC 𝓤 H (W .laws) (𝓣 .C)
     fm = fmOf 𝓤 H (W .laws) 𝓣
 
-    walk : ent 𝓤 (onEntry 𝓤 H A f.signature κs (q′, tt) a at) (WpFn 𝓤 H (𝓣 .C) (𝓣 .Λ) code.function (tv ∷ vint w64 n ∷ mmy m ∷ que x ∷ []) Post)
+    module _ (l₀ l₁ l₂ l₃ l₄ l₅ l₆ l₇ : ℕ) where
+      abbrev En : Env 𝓤 H
+      En = (Cho-ty, l₀) ∷ (Tab-ty, l₁) ∷ (tyInt w64, l₂) ∷ (Mem-ty, l₃) ∷ (Que-ty, l₄) ∷ (Cho-ty, l₅) ∷ (tyInt w64, l₆) ∷ (tyBool, l₇) ∷ []
+
+      -- the locals are freed
+      ends : (r : Choice) → r ≡ forwardIn (t .now) n m x → Is Cho r (cho r ∷ []) → Sq W (‵ (ShrOwn Seg κ′ t) ∷ ‵ (flft κ′ q′) ∷ ‵ (froom tyBool l₇ 0) ∷ ‵ (fdies tyBool l₇) ∷ ‵ (froom (tyInt w64) l₆ 0) ∷ ‵ (fdies (tyInt w64) l₆) ∷ ‵ (froom Cho-ty l₅ 0) ∷ ‵ (fdies Cho-ty l₅) ∷ ‵ (froom Que-ty l₄ 0) ∷ ‵ (fdies Que-ty l₄) ∷ ‵ (froom Mem-ty l₃ 0) ∷ ‵ (fdies Mem-ty l₃) ∷ ‵ (froom (tyInt w64) l₂ 0) ∷ ‵ (fdies (tyInt w64) l₂) ∷ ‵ (froom Tab-ty l₁ 0) ∷ ‵ (fdies Tab-ty l₁) ∷ ‵ (froom Cho-ty l₀ 0) ∷ ‵ (fdies Cho-ty l₀) ∷ []) (frees En (prop (Post (cho r))))
+      ends r e is =
+          move ! (16 ∷ 17 ∷ []) $ free1 ! $ move ! (14 ∷ 15 ∷ []) $ free1 ! $ move ! (12 ∷ 13 ∷ []) $ free1 ! $ move ! (10 ∷ 11 ∷ []) $ free1 ! $ move ! (8 ∷ 9 ∷ []) $ free1 ! $ move ! (6 ∷ 7 ∷ []) $ free1 ! $ move ! (4 ∷ 5 ∷ []) $ free1 ! $ move ! (2 ∷ 3 ∷ []) $ free1 ! $ free0 ! $ by ! (exits r e is)
+
+      abbrev Start : List (Item 𝓤)
+      Start = ‵ (ShrOwn Seg κ′ t) ∷ ‵ (flft κ′ q′) ∷ ‵ (froom tyBool l₇ 0) ∷ ‵ (fdies tyBool l₇) ∷ ‵ (froom (tyInt w64) l₆ 0) ∷ ‵ (fdies (tyInt w64) l₆) ∷ ‵ (froom Cho-ty l₅ 0) ∷ ‵ (fdies Cho-ty l₅) ∷ ‵ (fat fullShare Que-ty l₄ 0 (que x)) ∷ ‵ (fdies Que-ty l₄) ∷ ‵ (fat fullShare Mem-ty l₃ 0 (mmy m)) ∷ ‵ (fdies Mem-ty l₃) ∷ ‵ (fat fullShare (tyInt w64) l₂ 0 (vint w64 n)) ∷ ‵ (fdies (tyInt w64) l₂) ∷ ‵ (fat fullShare Tab-ty l₁ 0 (tv)) ∷ ‵ (fdies Tab-ty l₁) ∷ ‵ (froom Cho-ty l₀ 0) ∷ ‵ (fdies Cho-ty l₀) ∷ []
+
+      goes : (b1 : Bool) → ltb i n ≡ b1 → Sq W Start (runs (𝓣 .C) (𝓣 .Λ) En body.t-1 (atRet En Post))
+      goes true e1 =
+          calls-recall 𝓤 H A mem run κ′ q′ t n m x W fm known-recall within is-n is-m is-x
+          (and-then ! (load ! (from ! (stop !)) (look ! 14 refl)) (and-then ! (load ! (from ! (stop !)) (look ! 12 refl)) (and-then ! (load ! (from ! (stop !)) (look ! 10 refl)) (and-then ! (load ! (from ! (stop !)) (look ! 8 refl)) (no-more !))))) (λ is-5. land ! (from ! (stop !)) (init ! 6 refl (cho-lawful 𝓤 H A W .typed (out-recall 𝓤 H A mem run κ′ q′ t n m x) _ is-5 .0)) $
+          calls-place-in 𝓤 H A mem run c n W fm known-place-in is-5 is-n
+          (and-then ! (load ! (from ! (stop !)) (look ! 7 refl)) (and-then ! (load ! (from ! (stop !)) (look ! 13 refl)) (no-more !))) (λ is-6. land ! (from ! (stop !)) (init ! 4 refl (tt, record { fits = is-6 .1 })) $
+          assigns ! (bin ! (load ! (from ! (stop !)) (look ! 4 refl)) (load ! (from ! (stop !)) (look ! 12 refl)) tt) (from ! (stop !)) (init ! 2 refl (tt, tt)) $
+          rewrite ! 2 (λ (b : Bool). ‵ (fat fullShare tyBool l₇ 0 (vbool b))) e1 refl $ first ! $ branches ! (load ! (from ! (stop !)) (look ! 2 refl))
+          (λ _.
+          assigns ! (of-opd ! (load ! (from ! (stop !)) (look ! 6 refl))) (from ! (stop !)) (init ! 16 refl (cho-lawful 𝓤 H A W .typed (c) _ is-5 .0)) $
+          returns-within ! Post refl (look ! 16 refl) $ forget ! 2 refl $ forget ! 4 refl $ forget ! 6 refl $ forget ! 8 refl $ forget ! 10 refl $ forget ! 12 refl $ forget ! 14 refl $ forget ! 16 refl $ ends (c) (choice-kept (t .now) n m x (ltb-true i n e1)) is-5)
+          (λ z. absurd z)))
+      goes false e1 =
+          calls-recall 𝓤 H A mem run κ′ q′ t n m x W fm known-recall within is-n is-m is-x
+          (and-then ! (load ! (from ! (stop !)) (look ! 14 refl)) (and-then ! (load ! (from ! (stop !)) (look ! 12 refl)) (and-then ! (load ! (from ! (stop !)) (look ! 10 refl)) (and-then ! (load ! (from ! (stop !)) (look ! 8 refl)) (no-more !))))) (λ is-5. land ! (from ! (stop !)) (init ! 6 refl (cho-lawful 𝓤 H A W .typed (out-recall 𝓤 H A mem run κ′ q′ t n m x) _ is-5 .0)) $
+          calls-place-in 𝓤 H A mem run c n W fm known-place-in is-5 is-n
+          (and-then ! (load ! (from ! (stop !)) (look ! 7 refl)) (and-then ! (load ! (from ! (stop !)) (look ! 13 refl)) (no-more !))) (λ is-6. land ! (from ! (stop !)) (init ! 4 refl (tt, record { fits = is-6 .1 })) $
+          assigns ! (bin ! (load ! (from ! (stop !)) (look ! 4 refl)) (load ! (from ! (stop !)) (look ! 12 refl)) tt) (from ! (stop !)) (init ! 2 refl (tt, tt)) $
+          rewrite ! 2 (λ (b : Bool). ‵ (fat fullShare tyBool l₇ 0 (vbool b))) e1 refl $ first ! $ branches ! (load ! (from ! (stop !)) (look ! 2 refl))
+          (λ z. absurd z)
+          (λ _. skips ! $ exec ! (𝓣 .C) (𝓣 .Λ) En body.t-5 (atRet En Post) $
+          calls-last-hit 𝓤 H A mem run κ′ q′ t n x W fm known-last-hit within is-n is-x
+          (and-then ! (load ! (from ! (stop !)) (look ! 14 refl)) (and-then ! (load ! (from ! (stop !)) (look ! 12 refl)) (and-then ! (load ! (from ! (stop !)) (look ! 8 refl)) (no-more !)))) (λ is-0. land ! (from ! (stop !)) (init ! 16 refl (cho-lawful 𝓤 H A W .typed (out-last-hit 𝓤 H A mem run κ′ q′ t n x) _ is-0 .0)) $
+          returns ! (look ! 16 refl) $ forget ! 2 refl $ forget ! 4 refl $ forget ! 6 refl $ forget ! 8 refl $ forget ! 10 refl $ forget ! 12 refl $ forget ! 14 refl $ forget ! 16 refl $ ends (out-last-hit 𝓤 H A mem run κ′ q′ t n x) (choice-last (t .now) n m x (ltb-false i n e1)) is-0))))
+
+    walk : ent 𝓤 (onEntry 𝓤 H A f.signature κs (q′, tt) a₀ at) (WpFn 𝓤 H (𝓣 .C) (𝓣 .Λ) code.function (tv ∷ vint w64 n ∷ mmy m ∷ que x ∷ []) Post)
     walk =
-        qed W ((‵ (flft κ′ q′) ⊛ ‵ ftrue) ∷ ‵ (owns (ShrSlice (named 0) κ′ Seg ∷ usize ∷ Mem ∷ Que ∷ []) a at) ∷ []) ∵ enter ! (𝓣 .C) (𝓣 .Λ) code.function (tv ∷ vint w64 n ∷ mmy m ∷ que x ∷ []) _ $
-        alloc1 ! (λ l₀. alloc1 ! (λ l₁. alloc1 ! (λ l₂. alloc1 ! (λ l₃. alloc1 ! (λ l₄. alloc1 ! (λ l₅. alloc1 ! (λ l₆. alloc1 ! (λ l₇. alloc1 ! (λ l₈. alloc1 ! (λ l₉. alloc0 ! $ params1 ! $
-        pass1 ! (init ! 16 refl (tt, (tt, (record { fits = t-room .0 }, tt)))) $ pass1 ! (init ! 14 refl (tt, record { fits = is-n .1 })) $ pass1 ! (init ! 12 refl (mmy-lawful 𝓤 H A W .typed (m) _ is-m .0)) $ pass1 ! (init ! 10 refl (que-lawful 𝓤 H A W .typed (x) _ is-x .0)) $ pass0 ! $
-        move ! (21 ∷ []) $ fsplit ! $ move ! (22 ∷ []) $ split ! $
-        keep ! (2 ∷ 0 ∷ 4 ∷ 5 ∷ 6 ∷ 7 ∷ 8 ∷ 9 ∷ 10 ∷ 11 ∷ 12 ∷ 13 ∷ 14 ∷ 15 ∷ 16 ∷ 17 ∷ 18 ∷ 19 ∷ 20 ∷ 21 ∷ 22 ∷ 23 ∷ []) $
-        calls-place-kept 𝓤 H A mem run m n W fm known-place-kept is-m is-n
-        (and-then ! (load ! (from ! (stop !)) (look ! 15 refl)) (and-then ! (load ! (from ! (stop !)) (look ! 17 refl)) (no-more !))) (λ is-5. land ! (from ! (stop !)) (init ! 10 refl (tt, record { fits = is-5 .1 })) $
-        calls-segment-or 𝓤 H A mem run κ′ q′ t n (placeKept m n) W fm known-segment-or within is-n is-5
-        (and-then ! (load ! (from ! (stop !)) (look ! 18 refl)) (and-then ! (load ! (from ! (stop !)) (look ! 16 refl)) (and-then ! (load ! (from ! (stop !)) (look ! 10 refl)) (no-more !)))) (λ is-6. land ! (from ! (stop !)) (init ! 8 refl (lawful 𝓤 H A W .typed (out-segment-or 𝓤 H A mem run κ′ q′ t n (placeKept m n)) _ is-6 .0)) $
-        calls-recalled 𝓤 H A mem run x (segOr (t .now) n (placeKept m n)) (placeKept m n) n W fm known-recalled is-x is-6 is-5 is-n
-        (and-then ! (load ! (from ! (stop !)) (look ! 13 refl)) (and-then ! (load ! (from ! (stop !)) (look ! 9 refl)) (and-then ! (load ! (from ! (stop !)) (look ! 11 refl)) (and-then ! (load ! (from ! (stop !)) (look ! 17 refl)) (no-more !))))) (λ is-7. land ! (from ! (stop !)) (init ! 6 refl (cho-lawful 𝓤 H A W .typed (out-recalled 𝓤 H A mem run x (segOr (t .now) n (placeKept m n)) (placeKept m n) n) _ is-7 .0)) $
-        calls-left-of 𝓤 H A mem run (recalledBy x (segOr (t .now) n (placeKept m n)) (placeKept m n) n) n W fm known-left-of is-7 is-n
-        (and-then ! (load ! (from ! (stop !)) (look ! 7 refl)) (and-then ! (load ! (from ! (stop !)) (look ! 17 refl)) (no-more !))) (λ is-8. land ! (from ! (stop !)) (init ! 4 refl (tt, record { fits = is-8 .1 })) $
-        calls-last-hit 𝓤 H A mem run κ′ q′ t (leftOf (recalledBy x (segOr (t .now) n (placeKept m n)) (placeKept m n) n) n) x W fm known-last-hit (le-trans (left-most (recalledBy x (segOr (t .now) n (placeKept m n)) (placeKept m n) n) n) within) is-8 is-x
-        (and-then ! (load ! (from ! (stop !)) (look ! 18 refl)) (and-then ! (load ! (from ! (stop !)) (look ! 4 refl)) (and-then ! (load ! (from ! (stop !)) (look ! 12 refl)) (no-more !)))) (λ is-9. land ! (from ! (stop !)) (init ! 2 refl (cho-lawful 𝓤 H A W .typed (out-last-hit 𝓤 H A mem run κ′ q′ t (leftOf (recalledBy x (segOr (t .now) n (placeKept m n)) (placeKept m n) n) n) x) _ is-9 .0)) $
-        calls-or-else 𝓤 H A mem run (recalledBy x (segOr (t .now) n (placeKept m n)) (placeKept m n) n) (out-last-hit 𝓤 H A mem run κ′ q′ t (leftOf (recalledBy x (segOr (t .now) n (placeKept m n)) (placeKept m n) n) n) x) W fm known-or-else is-7 is-9
-        (and-then ! (load ! (from ! (stop !)) (look ! 7 refl)) (and-then ! (load ! (from ! (stop !)) (look ! 3 refl)) (no-more !))) (λ is-0. land ! (from ! (stop !)) (init ! 20 refl (cho-lawful 𝓤 H A W .typed (out-or-else 𝓤 H A mem run (recalledBy x (segOr (t .now) n (placeKept m n)) (placeKept m n) n) (out-last-hit 𝓤 H A mem run κ′ q′ t (leftOf (recalledBy x (segOr (t .now) n (placeKept m n)) (placeKept m n) n) n) x)) _ is-0 .0)) $
-        returns ! (look ! 20 refl) $ forget ! 2 refl $ forget ! 4 refl $ forget ! 6 refl $ forget ! 8 refl $ forget ! 10 refl $ forget ! 12 refl $ forget ! 14 refl $ forget ! 16 refl $ forget ! 18 refl $ forget ! 20 refl $
-        move ! (20 ∷ 21 ∷ []) $ free1 ! $ move ! (18 ∷ 19 ∷ []) $ free1 ! $ move ! (16 ∷ 17 ∷ []) $ free1 ! $ move ! (14 ∷ 15 ∷ []) $ free1 ! $ move ! (12 ∷ 13 ∷ []) $ free1 ! $ move ! (10 ∷ 11 ∷ []) $ free1 ! $ move ! (8 ∷ 9 ∷ []) $ free1 ! $ move ! (6 ∷ 7 ∷ []) $ free1 ! $ move ! (4 ∷ 5 ∷ []) $ free1 ! $ move ! (2 ∷ 3 ∷ []) $ free1 ! $ free0 ! $ by ! (exits (out-or-else 𝓤 H A mem run (recalledBy x (segOr (t .now) n (placeKept m n)) (placeKept m n) n) (out-last-hit 𝓤 H A mem run κ′ q′ t (leftOf (recalledBy x (segOr (t .now) n (placeKept m n)) (placeKept m n) n) n) x)) (choice-told (t .now) n x m) is-0)))))))))))))))))
+        qed W ((‵ (flft κ′ q′) ⊛ ‵ ftrue) ∷ ‵ (owns (ShrSlice (named 0) κ′ Seg ∷ usize ∷ Mem ∷ Que ∷ []) a₀ at) ∷ []) ∵ enter ! (𝓣 .C) (𝓣 .Λ) code.function (tv ∷ vint w64 n ∷ mmy m ∷ que x ∷ []) _ $
+        alloc1 ! (λ l₀. alloc1 ! (λ l₁. alloc1 ! (λ l₂. alloc1 ! (λ l₃. alloc1 ! (λ l₄. alloc1 ! (λ l₅. alloc1 ! (λ l₆. alloc1 ! (λ l₇. alloc0 ! $ params1 ! $
+        pass1 ! (init ! 12 refl (tt, (tt, (record { fits = t-room .0 }, tt)))) $ pass1 ! (init ! 10 refl (tt, record { fits = is-n .1 })) $ pass1 ! (init ! 8 refl (mmy-lawful 𝓤 H A W .typed (m) _ is-m .0)) $ pass1 ! (init ! 6 refl (que-lawful 𝓤 H A W .typed (x) _ is-x .0)) $ pass0 ! $
+        move ! (17 ∷ []) $ fsplit ! $ move ! (18 ∷ []) $ split ! $
+        keep ! (2 ∷ 0 ∷ 4 ∷ 5 ∷ 6 ∷ 7 ∷ 8 ∷ 9 ∷ 10 ∷ 11 ∷ 12 ∷ 13 ∷ 14 ∷ 15 ∷ 16 ∷ 17 ∷ 18 ∷ 19 ∷ []) $
+        goes l₀ l₁ l₂ l₃ l₄ l₅ l₆ l₇ (ltb i n) refl))))))))
 
 module _ {M : Type 1} (𝓤 : URA M) (H : Heap 𝓤) (A : Atoms 𝓤) (W : Given 𝓤 H A) (mem : Memory → SProp 𝓤) (run : Routine → Fun 𝓤) (𝓣 : Tables 𝓤 H)
-    (known-place-kept : Triple 𝓤 (𝓣 .C #place-kept) (the-place-kept 𝓤 H A mem run)) (known-segment-or : Triple 𝓤 (𝓣 .C #segment-or) (the-segment-or 𝓤 H A mem run)) (known-recalled : Triple 𝓤 (𝓣 .C #recalled) (the-recalled 𝓤 H A mem run)) (known-left-of : Triple 𝓤 (𝓣 .C #left-of) (the-left-of 𝓤 H A mem run)) (known-last-hit : Triple 𝓤 (𝓣 .C #last-hit) (the-last-hit 𝓤 H A mem run)) (known-or-else : Triple 𝓤 (𝓣 .C #or-else) (the-or-else 𝓤 H A mem run)) where
+    (known-recall : Triple 𝓤 (𝓣 .C #recall) (the-recall 𝓤 H A mem run)) (known-place-in : Triple 𝓤 (𝓣 .C #place-in) (the-place-in 𝓤 H A mem run)) (known-last-hit : Triple 𝓤 (𝓣 .C #last-hit) (the-last-hit 𝓤 H A mem run)) where
   walks : Walks 𝓤 H A f.ended stayed (WpFn 𝓤 H (𝓣 .C) (𝓣 .Λ) code.function) (f.clauses 𝓤 H A mem run)
   walks = walked 𝓤 H A f.ended stayed (f.clauses 𝓤 H A mem run) (WpFn 𝓤 H (𝓣 .C) (𝓣 .Λ) code.function) (λ κs. (slice-vals, (uint-vals w64, ((λ c. mmy c ∷ []), ((λ c. que c ∷ []), tt)))))
       (λ κs. (shr-slice-tells (named 0) (κs .0) Seg, (uint-tells w64, (mmy-tells, (que-tells, tt)))))
-      (λ κs qs bounds a g are. needs 𝓤 _ _ (λ within. walk 𝓤 H A W mem run (κs .0) (qs .0) (a .0) (a .1 .0) (a .1 .1 .0) (a .1 .1 .1 .0) (are .0 .0 .1) (are .1 .0) (are .1 .1 .0) (are .1 .1 .1 .0) within 𝓣 known-place-kept known-segment-or known-recalled known-left-of known-last-hit known-or-else))
+      (λ κs qs bounds a g are. needs 𝓤 _ _ (λ within. walk 𝓤 H A W mem run (κs .0) (qs .0) (a .0) (a .1 .0) (a .1 .1 .0) (a .1 .1 .1 .0) (are .0 .0 .1) (are .1 .0) (are .1 .1 .0) (are .1 .1 .1 .0) within 𝓣 known-recall known-place-in known-last-hit))
 
   meets : Meets 𝓤 H A f.signature (WpFn 𝓤 H (𝓣 .C) (𝓣 .Λ) code.function) (f.spec 𝓤 H A mem run)
   meets =
@@ -111,9 +132,6 @@ choice-spec 𝓤 H 𝓜 𝓖 𝓡 =
     entered 𝓤 H (tripleOf 𝓤 H (𝓖 .A) f.signature (f.spec 𝓤 H (𝓖 .A) (𝓜 .mem) (𝓡 .run)))
     (tables 𝓤 H 𝓜 𝓡 code.env .C) (tables 𝓤 H 𝓜 𝓡 code.env .Λ) #self code.function (code.unfolded 𝓤 H 𝓜 𝓡)
     (meets 𝓤 H (𝓖 .A) (givenOf 𝓤 H 𝓜 𝓖) (𝓜 .mem) (𝓡 .run) (tablesOf 𝓤 H 𝓜 (tables 𝓤 H 𝓜 𝓡 code.env))
-    (cited 𝓤 H (the-place-kept 𝓤 H (𝓖 .A) (𝓜 .mem) (𝓡 .run)) 𝓜 𝓡 code.env #place-kept d-place-kept.routine code.calls-spk·place-kept (t-place-kept.met 𝓤 H 𝓜 𝓖 𝓡))
-    (cited 𝓤 H (the-segment-or 𝓤 H (𝓖 .A) (𝓜 .mem) (𝓡 .run)) 𝓜 𝓡 code.env #segment-or d-segment-or.routine code.calls-lent·segment-or (t-segment-or.met 𝓤 H 𝓜 𝓖 𝓡))
-    (cited 𝓤 H (the-recalled 𝓤 H (𝓖 .A) (𝓜 .mem) (𝓡 .run)) 𝓜 𝓡 code.env #recalled d-recalled.routine code.calls-spk·recalled (t-recalled.met 𝓤 H 𝓜 𝓖 𝓡))
-    (cited 𝓤 H (the-left-of 𝓤 H (𝓖 .A) (𝓜 .mem) (𝓡 .run)) 𝓜 𝓡 code.env #left-of d-left-of.routine code.calls-table·left-of (t-left-of.met 𝓤 H 𝓜 𝓖 𝓡))
-    (cited 𝓤 H (the-last-hit 𝓤 H (𝓖 .A) (𝓜 .mem) (𝓡 .run)) 𝓜 𝓡 code.env #last-hit d-last-hit.routine code.calls-lent·last-hit (t-last-hit.met 𝓤 H 𝓜 𝓖 𝓡))
-    (cited 𝓤 H (the-or-else 𝓤 H (𝓖 .A) (𝓜 .mem) (𝓡 .run)) 𝓜 𝓡 code.env #or-else d-or-else.routine code.calls-table·or-else (t-or-else.met 𝓤 H 𝓜 𝓖 𝓡)))
+    (cited 𝓤 H (the-recall 𝓤 H (𝓖 .A) (𝓜 .mem) (𝓡 .run)) 𝓜 𝓡 code.env #recall d-recall.routine code.calls-lent·recall (t-recall.met 𝓤 H 𝓜 𝓖 𝓡))
+    (cited 𝓤 H (the-place-in 𝓤 H (𝓖 .A) (𝓜 .mem) (𝓡 .run)) 𝓜 𝓡 code.env #place-in d-place-in.routine code.calls-table·place-in (t-place-in.met 𝓤 H 𝓜 𝓖 𝓡))
+    (cited 𝓤 H (the-last-hit 𝓤 H (𝓖 .A) (𝓜 .mem) (𝓡 .run)) 𝓜 𝓡 code.env #last-hit d-last-hit.routine code.calls-lent·last-hit (t-last-hit.met 𝓤 H 𝓜 𝓖 𝓡)))

@@ -35,7 +35,7 @@ returns c =
     let x = o .before .before .before .args .s in (
       then (o .put-number .ensures .0)
           (then (a .put-number2 .ensures .0)
-          (then (told (x .start) (search (needs, b .before .struct-told .given)) (b .put-field .ensures .0)) (then (told (x .end) (search (needs, d .before .struct-told2 .given .1 .1 .1 .1 .1)) (d .put-field2 .ensures .0)) (e .put-mark .ensures .0)))),
+          (then (told (x .start) (search (needs, b .before .struct-told .given .1 .1 .1 .1 .1 .1)) (b .put-field .ensures .0)) (then (told (x .end) (search (needs, d .before .struct-told2 .given .1 .1 .1 .1 .1 .1 .1)) (d .put-field2 .ensures .0)) (e .put-mark .ensures .0)))),
       omega (arith, o .put-number .ensures .1, a .put-number2 .ensures .1, b .put-field .ensures .1, d .put-field2 .ensures .1, e .put-mark .ensures .1),
     )
 

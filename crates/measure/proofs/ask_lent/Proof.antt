@@ -133,8 +133,8 @@ module _ {M : Type 1} (𝓤 : URA M) (H : Heap 𝓤) (A : Atoms 𝓤) (W : Given
           (and-then ! (load ! (from ! (stop !)) (look ! 31 refl)) (and-then ! (load ! (from ! (stop !)) (look ! 29 refl)) (and-then ! (load ! (from ! (stop !)) (look ! 25 refl)) (and-then ! (load ! (from ! (stop !)) (look ! 11 refl)) (and-then ! (load ! (from ! (stop !)) (look ! 13 refl)) (no-more !)))))) (λ is-x. land ! (from ! (stop !)) (init ! 10 refl (ask-lawful 𝓤 H A W .typed (out-state 𝓤 H A mem run κ κ′ q q′ k t n r-is-k r-is-q) _ is-x .0)) $
           calls-with-answer 𝓤 H A mem run c (asked (limitOf (length (t .now))) (evaluated Spk (k .now)) (t .now) n r-is-k r-is-q) b W fm known-with-answer is-c is-x is-b
           (and-then ! (load ! (from ! (stop !)) (look ! 19 refl)) (and-then ! (load ! (from ! (stop !)) (look ! 11 refl)) (and-then ! (load ! (from ! (stop !)) (look ! 23 refl)) (no-more !)))) (λ r-is-h e-is-h is-h. land ! (from ! (stop !)) (store ! 18 refl (rn-lawful 𝓤 H A W .typed (r-is-h) _ is-h .0)) $
-          calls-next-pass 𝓤 H A mem run i m (asked (limitOf (length (t .now))) (evaluated Spk (k .now)) (t .now) n r-is-k r-is-q) W fm known-next-pass less is-i is-m is-x
-          (and-then ! (load ! (from ! (stop !)) (look ! 17 refl)) (and-then ! (load ! (from ! (stop !)) (look ! 21 refl)) (and-then ! (load ! (from ! (stop !)) (look ! 11 refl)) (no-more !)))) (λ r-is-j e-is-j is-j. land ! (from ! (stop !)) (init ! 8 refl (tt, record { fits = is-j .1 })) $
+          calls-next-pass 𝓤 H A mem run i m W fm known-next-pass less is-i is-m
+          (and-then ! (load ! (from ! (stop !)) (look ! 17 refl)) (and-then ! (load ! (from ! (stop !)) (look ! 21 refl)) (no-more !))) (λ r-is-j e-is-j is-j. land ! (from ! (stop !)) (init ! 8 refl (tt, record { fits = is-j .1 })) $
           assigns-last ! (of-opd ! (load ! (from ! (stop !)) (look ! 8 refl))) (from ! (stop !)) (store ! 16 refl (tt, record { fits = is-j .1 })) $
           forget ! 6 refl $ forget ! 8 refl $ forget ! 10 refl $ forget ! 12 refl $ forget ! 14 refl $ again ! Nearer At (i, c, le, is-c) (r-is-j, r-is-h, e-is-j .1, is-h) (omega (arith, less, e-is-j .0, e-is-j .1)))))))
       turn i c le is-c false e =

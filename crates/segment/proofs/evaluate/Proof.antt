@@ -1,56 +1,187 @@
--- `segment::evaluate` meets its contract: 12, 14, and else the segment, which fits. Assumes nothing.
-use Rattle.segment.proofs.Fit.{fitting, evaluated-unsupported, evaluated-unfit, evaluated-valued}
-use Rattle.segment.proofs.Placed.{Placed}
-use Rattle.segment.specs.Evaluating.{Sound}
-use Rattle.daf.specs.Addresses.{wholeDoubles}
-use mir.ValLaws.{toZ-ofZ}
-use mir.Syntax.{w32}
-use lib.IntN.{natAbs}
-use mathlib.Core.Path.{sym, _∙_}
+-- `segment::evaluate` meets its contract: where the segment plainly fits, it is answered here; all else goes by the tests. Assumes nothing.
+use Prim.Native.Nat.{_+_, _*_, _≤_}
+use mathlib.Core.Path.{refl, sym, ap, _∙_}
+use native.Mathlib.Omega.{arith}
+use lib.ListN.{length}
+use denote.Ref.{now}
 use borrow.Author.Needs.{needs}
+use Rattle.cheby.specs.Cheby.{recordFor}
+use Rattle.cheby.proofs.Record.{refused-where}
+use Rattle.segment.specs.Kinds.{kindWith}
+use Rattle.segment.specs.declared.Form.the-variants.{Two, Three}
+use Rattle.segment.proofs.Tests.{is-type}
+use Rattle.segment.proofs.Forms.{form-two}
+use Rattle.segment.proofs.Plain.{Fitting, two-fits, three-fits}
+use Rattle.segment.proofs.Valued.{record-below, record-ends, two-refused, two-answered, three-answered}
 use Rattle.segment.proofs.evaluate.Statement.{statement}
 use Rattle.segment.proofs.evaluate.Tie as tie
 
--- behind refusals 12 and 14 the segment fits
-fits-now : (c : tie.Else2)
-    → let a = c .before .before .before .before .before .args in Placed (wholeDoubles (a .kernel .now)) (a .s .start) (a .s .end) × Sound (a .kernel .now) (natAbs (a .s .start)) (a .s .kind)
-fits-now c = fitting _ _ _ (sym (c .before .before .before .unsupported .ensures) ∙ c .before .before .if1 .left) (sym (c .before .unfit .ensures) ∙ c .if2 .left)
+-- a segment of type 2 that plainly fits
+fits-two : (c : tie.Then2)
+    → let a = c .before .before .before .before .before .before .before .before .before .before .args in Fitting (a .family) (now (a .kernel)) (a .s) Two 3 (c .before .before .of-records .result)
+fits-two c =
+    let a = c .before .before .before .before .before .before .before .before .before .before .args in
+    two-fits (a .family) (now (a .kernel)) (a .s) (c .before .before .of-records .result)
+    (sym (form-two (a .family) (a .s .«data_type») (is-type (a .s .«data_type») 2 (search needs) (search needs) (c .before .before .before .before .before .before .if1 .taken))))
+    (c .before .before .before .before .kind .given .1 ∙ ap (kindWith Two) (sym (c .before .before .of-records .ensures)))
+    (c .before .plainly-fits .ensures (c .if2 .taken))
 
-unsupported-requires : tie.Need-unsupported-requires
-unsupported-requires c κs = search needs
+-- one of type 3
+fits-three : (c : tie.Then5)
+    → let a = c .before .before .before .before .before .before .before .before .before .before .before .before .args in Fitting (a .family) (now (a .kernel)) (a .s) Three 6 (c .before .before .before .before .of-records2 .result)
+fits-three c =
+    let a = c .before .before .before .before .before .before .before .before .before .before .before .before .args in
+    three-fits (a .family) (now (a .kernel)) (a .s) (c .before .before .before .before .of-records2 .result)
+    (c .before .before .before .is-three .ensures (c .before .before .if4 .taken))
+    (c .before .before .before .before .before .before .kind2 .given .1 ∙ ap (kindWith Three) (sym (c .before .before .before .before .of-records2 .ensures)))
+    (c .before .plainly-fits2 .ensures (c .if5 .taken))
+
+-- the record for et ends within the kernel
+ends-two : (c : tie.After-plain-byte)
+    → let a = c .before .before .before .before .before .before .before .before .before .before .before .before .args in
+    let t = c .before .before .before .before .of-records .result in
+    c .plain-byte .result + 8 * t .size ≤ length (now (a .kernel))
+ends-two c =
+    let a = c .before .before .before .before .before .before .before .before .before .before .before .before .args in
+    let t = c .before .before .before .before .of-records .result in
+    let r = fits-two (c .before .before) .records in
+    omega (
+      arith,
+      r .within,
+      record-ends (t .size) (recordFor (t .init) (t .intlen) (a .et) (t .count)) (t .count) (record-below (t .init) (t .intlen) (a .et) (t .count) (r .some)),
+      c .plain-byte .ensures,
+      c .before .start-of .ensures .0,
+    )
+
+ends-three : (c : tie.After-plain-byte2)
+    → let a = c .before .before .before .before .before .before .before .before .before .before .before .before .before .before .args in
+    let t = c .before .before .before .before .before .before .of-records2 .result in
+    c .plain-byte2 .result + 8 * t .size ≤ length (now (a .kernel))
+ends-three c =
+    let a = c .before .before .before .before .before .before .before .before .before .before .before .before .before .before .args in
+    let t = c .before .before .before .before .before .before .of-records2 .result in
+    let r = fits-three (c .before .before) .records in
+    omega (
+      arith,
+      r .within,
+      record-ends (t .size) (recordFor (t .init) (t .intlen) (a .et) (t .count)) (t .count) (record-below (t .init) (t .intlen) (a .et) (t .count) (r .some)),
+      c .plain-byte2 .ensures,
+      c .before .start-of2 .ensures .0,
+    )
+
+enum-known-kind : tie.Need-enum-known-kind
+enum-known-kind c = search needs
+
+of-records-requires : tie.Need-of-records-requires
+of-records-requires c κs = search needs
+
+plainly-fits-requires : tie.Need-plainly-fits-requires
+plainly-fits-requires c κs = search needs
+
+start-of-requires : tie.Need-start-of-requires
+start-of-requires c κs = fits-two c .placed .start-count
+
+plain-byte-requires : tie.Need-plain-byte-requires
+plain-byte-requires c κs = let r = fits-two (c .before) .records in (rw (c .start-of .ensures .0) (r .from), r .some, rw (c .start-of .ensures .0) (r .within), fits-two (c .before) .few)
+
+no-radius-requires : tie.Need-no-radius-requires
+no-radius-requires c κs = omega (arith, ends-two c, fits-two (c .before .before) .records .size)
 
 returns : tie.Need-returns
 returns c =
-    let a = c .before .before .before .before .args in
-    rw (toZ-ofZ w32 (a .s .«data_type») (search needs)) (evaluated-unsupported _ _ _ _ _ (sym (c .before .before .unsupported .ensures) ∙ c .before .if1 .taken))
+    let read = c .before .before in
+    let start = read .before in
+    two-refused _ (start .start-of .result) _ _ _ _ _ _ _ _ (read .plain-byte .ensures) refl (refused-where _ _ _ _ (sym (c .before .no-radius .ensures) ∙ c .if3 .taken))
+    ∙ fits-two (start .before) .behind (start .start-of .result) _ _ (start .start-of .ensures .0)
 
-unfit-requires : tie.Need-unfit-requires
-unfit-requires c κs = search needs
+plain-coefficients-requires : tie.Need-plain-coefficients-requires
+plain-coefficients-requires c κs =
+    let f = fits-two (c .before .before .before .before) in
+    (omega arith, omega (arith, f .records .size), f .short)
+
+state2-at-requires : tie.Need-state2-at-requires
+state2-at-requires c κs =
+    let read = c .before .before .before in
+    (omega (arith, ends-two read, fits-two (read .before .before) .records .size, c .plain-coefficients .ensures), sym (c .before .before .no-radius .ensures) ∙ c .before .if3 .left)
 
 returns-2 : tie.Need-returns-2
 returns-2 c =
-    evaluated-unfit _ _ _ _ _ (sym (c .before .before .before .unsupported .ensures) ∙ c .before .before .if1 .left) (sym (c .before .unfit .ensures) ∙ c .if2 .taken)
+    let read = c .before .before .before .before in
+    let start = read .before in
+    two-answered _ (start .start-of .result) _ _ _ _ _ _ _ _ (read .plain-byte .ensures) _ (c .before .plain-coefficients .ensures) (sym (c .state2-at .ensures))
+    ∙ fits-two (start .before) .behind (start .start-of .result) _ _ (start .start-of .ensures .0)
 
-start-of-requires : tie.Need-start-of-requires
-start-of-requires c κs = fits-now c .0 .start-count
-
-value-requires : tie.Need-value-requires
-value-requires c κs = rw (c .start-of .ensures .0) (fits-now (c .before) .1)
+evaluate-any-requires : tie.Need-evaluate-any-requires
+evaluate-any-requires c κs = search needs
 
 returns-3 : tie.Need-returns-3
-returns-3 c =
-    c .value .ensures
-    ∙ evaluated-valued _ _ _ _ _ _ (c .before .start-of .ensures .0) (sym (c .before .before .before .before .before .unsupported .ensures) ∙ c .before .before .before .before .if1 .left)
-    (sym (c .before .before .before .unfit .ensures) ∙ c .before .before .if2 .left)
+returns-3 c = search needs
+
+enum-known-kind-2 : tie.Need-enum-known-kind-2
+enum-known-kind-2 c = search needs
+
+of-records-requires-2 : tie.Need-of-records-requires-2
+of-records-requires-2 c κs = search needs
+
+is-three-requires : tie.Need-is-three-requires
+is-three-requires c κs = search needs
+
+plainly-fits-requires-2 : tie.Need-plainly-fits-requires-2
+plainly-fits-requires-2 c κs = search needs
+
+start-of-requires-2 : tie.Need-start-of-requires-2
+start-of-requires-2 c κs = fits-three c .placed .start-count
+
+plain-byte-requires-2 : tie.Need-plain-byte-requires-2
+plain-byte-requires-2 c κs = let r = fits-three (c .before) .records in (rw (c .start-of2 .ensures .0) (r .from), r .some, rw (c .start-of2 .ensures .0) (r .within), fits-three (c .before) .few)
+
+plain-coefficients-requires-2 : tie.Need-plain-coefficients-requires-2
+plain-coefficients-requires-2 c κs =
+    let f = fits-three (c .before .before) in
+    (omega arith, omega (arith, f .records .size), f .short)
+
+state3-at-requires : tie.Need-state3-at-requires
+state3-at-requires c κs =
+    let read = c .before in
+    omega (arith, ends-three read, fits-three (read .before .before) .records .size, c .plain-coefficients2 .ensures)
+
+returns-4 : tie.Need-returns-4
+returns-4 c =
+    let read = c .before .before in
+    let start = read .before in
+    three-answered _ (start .start-of2 .result) _ _ _ _ _ _ _ _ (read .plain-byte2 .ensures) _ (c .before .plain-coefficients2 .ensures) (c .state3-at .ensures)
+    ∙ fits-three (start .before) .behind (start .start-of2 .result) _ _ (start .start-of2 .ensures .0)
+
+evaluate-any-requires-2 : tie.Need-evaluate-any-requires-2
+evaluate-any-requires-2 c κs = search needs
+
+returns-5 : tie.Need-returns-5
+returns-5 c = search needs
 
 pub evaluate-spec : {M : Type 1} → statement M
 evaluate-spec =
     tie.close
     (tie.spec
-    unsupported-requires
-    returns
-    unfit-requires
-    returns-2
+    enum-known-kind
+    of-records-requires
+    plainly-fits-requires
     start-of-requires
-    value-requires
-    returns-3)
+    plain-byte-requires
+    no-radius-requires
+    returns
+    plain-coefficients-requires
+    state2-at-requires
+    returns-2
+    evaluate-any-requires
+    returns-3
+    enum-known-kind-2
+    of-records-requires-2
+    is-three-requires
+    plainly-fits-requires-2
+    start-of-requires-2
+    plain-byte-requires-2
+    plain-coefficients-requires-2
+    state3-at-requires
+    returns-4
+    evaluate-any-requires-2
+    returns-5)

@@ -1,5 +1,4 @@
 -- `segment::find` meets its contract: each test in its turn. What one shows is a lemma at the place behind it. Assumes nothing.
-use Prim.Native.Nat.{ℕ}
 use mathlib.Core.Path.{_≡_, sym, ap, _∙_}
 use mathlib.Core.Bool.{true, false}
 use native.Mathlib.Omega.{arith}
@@ -25,14 +24,12 @@ is-handled c = sym (c .before .handled .ensures ∙ ap handled (c .before .befor
 
 -- the addresses are in order
 not-misplaced : (c : tie.Else3)
-    → let a = c .before .before .before .before .before .before .before .before .before .args in
+    → let a = c .before .before .before .before .before .before .before .before .args in
     misplaced (wholeDoubles (a .kernel .now)) (a .s .start) (a .s .end) ≡ false
-not-misplaced c =
-    let s = c .before .before .before .before .before .before .before .before .before .args .s in
-    sym (c .before .misplaced .ensures ∙ ap (λ (n : ℕ). misplaced n (s .start) (s .end)) (c .before .before .whole-doubles .ensures)) ∙ c .if3 .left
+not-misplaced c = sym (c .before .misplaced .ensures) ∙ c .if3 .left
 
 within : (c : tie.Else3)
-    → let a = c .before .before .before .before .before .before .before .before .before .args in Placed (wholeDoubles (a .kernel .now)) (a .s .start) (a .s .end)
+    → let a = c .before .before .before .before .before .before .before .before .args in Placed (wholeDoubles (a .kernel .now)) (a .s .start) (a .s .end)
 within c = placed _ _ _ (not-misplaced c)
 
 limit-nan-requires : tie.Need-limit-nan-requires
@@ -52,17 +49,11 @@ returns-2 c =
     found-other _ _ _ (sym (c .before .before .before .before .limit-nan .ensures) ∙ c .before .before .before .if1 .left)
     (sym (c .before .handled .ensures ∙ ap handled (c .before .before .form-of .ensures)) ∙ not-true _ (c .if2 .taken))
 
-whole-doubles-requires : tie.Need-whole-doubles-requires
-whole-doubles-requires c κs = search needs
-
 misplaced-requires : tie.Need-misplaced-requires
 misplaced-requires c κs = search needs
 
 returns-3 : tie.Need-returns-3
-returns-3 c =
-    let a = c .before .before .before .before .before .before .before .before .before .args in
-    found-misplaced _ _ _ (numbers (c .before .before .before)) (is-handled (c .before .before .before))
-    (sym (c .before .misplaced .ensures ∙ ap (λ (n : ℕ). misplaced n (a .s .start) (a .s .end)) (c .before .before .whole-doubles .ensures)) ∙ c .if3 .taken)
+returns-3 c = found-misplaced _ _ _ (numbers (c .before .before)) (is-handled (c .before .before)) (sym (c .before .misplaced .ensures) ∙ c .if3 .taken)
 
 end-of-requires : tie.Need-end-of-requires
 end-of-requires c κs = within c .end-count
@@ -82,7 +73,7 @@ trailer-size-requires c κs = search needs
 returns-4 : tie.Need-returns-4
 returns-4 c =
     let d = c .before .before .before .before in
-    found-short _ _ _ (numbers (d .before .before .before)) (is-handled (d .before .before .before)) (not-misplaced d) _ _ _ (d .before .before .before .before .before .form-of .ensures) (c .before .before .start-of .ensures .0)
+    found-short _ _ _ (numbers (d .before .before)) (is-handled (d .before .before)) (not-misplaced d) _ _ _ (d .before .before .before .before .form-of .ensures) (c .before .before .start-of .ensures .0)
     (c .before .before .before .end-of .ensures .0) (under-size _ _ _ (c .before .trailer-size .ensures) (c .if4 .taken))
 
 trailer-at-requires : tie.Need-trailer-at-requires
@@ -101,7 +92,7 @@ returns-5 : tie.Need-returns-5
 returns-5 c =
     let d = c .before .before .before .before .before .before .before in
     sym
-    (found-trailer _ _ _ (numbers (d .before .before .before)) (is-handled (d .before .before .before)) (not-misplaced d) _ _ _ (d .before .before .before .before .before .form-of .ensures) (c .before .before .before .before .before .start-of .ensures .0)
+    (found-trailer _ _ _ (numbers (d .before .before)) (is-handled (d .before .before)) (not-misplaced d) _ _ _ (d .before .before .before .before .form-of .ensures) (c .before .before .before .before .before .start-of .ensures .0)
     (c .before .before .before .before .before .before .end-of .ensures .0) _ true (over-size _ _ _ (c .before .before .before .before .trailer-size .ensures) (c .before .before .before .if4 .left)) (c .before .before .trailer-at .ensures)
     (sym (c .before .bad-trailer .ensures) ∙ c .if5 .taken))
 
@@ -113,7 +104,7 @@ returns-6 c =
     let d = c .before .before .before .before .before .before .before .before in
     ap Makes (c .kind-with .ensures)
     ∙ sym
-    (found-trailer _ _ _ (numbers (d .before .before .before)) (is-handled (d .before .before .before)) (not-misplaced d) _ _ _ (d .before .before .before .before .before .form-of .ensures) (c .before .before .before .before .before .before .start-of .ensures .0)
+    (found-trailer _ _ _ (numbers (d .before .before)) (is-handled (d .before .before)) (not-misplaced d) _ _ _ (d .before .before .before .before .form-of .ensures) (c .before .before .before .before .before .before .start-of .ensures .0)
     (c .before .before .before .before .before .before .before .end-of .ensures .0) _ false (over-size _ _ _ (c .before .before .before .before .before .trailer-size .ensures) (c .before .before .before .before .if4 .left)) (c .before .before .before .trailer-at .ensures)
     (sym (c .before .before .bad-trailer .ensures) ∙ c .before .if5 .left))
 
@@ -126,7 +117,6 @@ find-spec =
     form-of-requires
     handled-requires
     returns-2
-    whole-doubles-requires
     misplaced-requires
     returns-3
     end-of-requires

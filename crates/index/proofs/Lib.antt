@@ -1,0 +1,8 @@
+-- Laws that callers cite.
+pub mod Visits
+pub mod Turns
+pub mod Right
+pub mod Filling
+pub mod Parts
+pub mod Marking
+pub mod Cases

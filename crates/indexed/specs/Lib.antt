@@ -1,0 +1,5 @@
+-- The definitions that the contracts of `indexed` cite.
+pub mod Stepping
+pub mod Asking
+pub mod Orienting
+pub mod Opening
