@@ -11,10 +11,13 @@ rust=../tests/oracle/target/x86_64-unknown-linux-gnu/release/bench
 ours=../target/bin/measure
 
 files() { echo "target/scenarios/$1.kernel target/scenarios/$1.questions"; }
-# Our side says on the error output where a question or a kernel is refused: then nothing is counted.
+# Our side says on the error output where a question or a kernel is refused: then nothing is counted. Sixteen passes ask each question once; a kernel of
+# 4,096 segments that is opened in each pass is opened twice.
 answers() {
+  times=16
+  [ "$2" != open-4096 ] || times=2
   # shellcheck disable=SC2046
-  said=$(qemu-x86_64 "$ours" "$1" $(files "$2") 2 2>&1 > /dev/null)
+  said=$(qemu-x86_64 "$ours" "$1" $(files "$2") "$times" 2>&1 > /dev/null)
   [ -z "$said" ] || { echo "$2: $said" >&2; exit 1; }
 }
 # The passes of the shorter of two runs: an opening is long.
