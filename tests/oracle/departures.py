@@ -43,6 +43,8 @@ def trailers():
     yield "type 9, degree 2^64: d + 1 wraps to 0", spk(segment(states(2, WRAPPED), 9)), at, ["0 forward 0"], ["opened 1", "0 error window 0"]
     yield "type 13, degree 2^64: the same at the opening", spk(segment(states(2, WRAPPED), 13)), at, ["0 forward 0"], ["opening error malformed"]
     yield "NAIF: 100 states have no directory entry", spk(segment(states(100, 3.0), 9)), at, MALFORMED, ["opening error malformed"]
+    wrapped = spk(segment([3.0, 100 * 2.0**32], 9))
+    yield "type 9, N 100 * 2^32 in two doubles: the length wraps in 32 bits", wrapped, at, MALFORMED, ["opened 1", "0 error address"]
     yield "a window of 33 records", spk(segment(states(33, 32.0), 9)), at, MALFORMED, ["opened 1", "0 forward 0"]
     for n in (0.0, NAN, INF):
         yield f"N {n}", spk(segment(series(n=n))), at, MALFORMED, ["opened 1", "0 panic"]

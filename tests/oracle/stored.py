@@ -3,7 +3,8 @@
 
 Writes what the program `cases` (FOLDER is crates/cases) is run on: data/0.cases, data/1.cases, ... of at most 65,536
 bytes each, their names in `args`, and `stdout`: the lines that it must print. A file is a run of blocks: four words
-of four bytes (0 ask, 1 ask turned, 2 orient, 3 segments alone; the lengths of the kernel that the table is made from,
+of four bytes (0 ask, 1 ask turned, 2 orient, 3 segments alone, 4 those of a PCK, which tests/vectors/alone.py adds
+behind these with the second program's lines; the lengths of the kernel that the table is made from,
 0 if it is the kernel itself, of the kernel and of the questions), 72 bytes of matrix if turned, and the three parts;
 all little-endian. A block's lines are what `ask` or `orient` prints about it, or `forward S` of a segment alone. The
 kernels are small ones of gen.py's kinds: every type, every way, chains of 32 and 33 steps, tables of another kernel,

@@ -9,7 +9,7 @@ import second
 # the program `cases` stands for a small host
 second.MOST_SEGMENTS = 256
 
-PROGRAMS = {0: "ask", 1: "ask", 2: "orient", 3: "alone"}
+PROGRAMS = {0: "ask", 1: "ask", 2: "orient", 3: "alone", 4: "alone_pck"}
 
 
 def numbered(lines, records):
@@ -21,7 +21,7 @@ def numbered(lines, records):
 
 def block_lines(program, origin, kernel, questions, matrix):
     """What is said of the questions to a kernel with the table of `origin`."""
-    table = second.open_pck(origin) if program == "orient" else second.open_spk(origin)
+    table = second.open_pck(origin) if program in ("orient", "alone_pck") else second.open_spk(origin)
     if isinstance(table, second.Refusal):
         return [second.refused_line(table)]
     records = second.question_records(program, questions)
@@ -31,6 +31,8 @@ def block_lines(program, origin, kernel, questions, matrix):
         return second.ask_lines(kernel, table, records, second.matrix_rows(matrix) if matrix else None)
     if program == "orient":
         return second.orient_lines(kernel, table, records)
+    if program == "alone_pck":
+        return second.alone_pck_lines(kernel, table, records)
     return numbered(second.alone_lines(kernel, table, records), records)
 
 

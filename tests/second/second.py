@@ -532,8 +532,11 @@ def alone(kernel, table, number, et):
 
 
 def alone_pck(kernel, table, number, et):
-    """One segment of a PCK table alone: six numbers or a Refusal."""
-    return _alone(kernel, PCK, table, number, et)
+    """One segment of a PCK table alone: an Orientation or a Refusal."""
+    six = _alone(kernel, PCK, table, number, et)
+    if isinstance(six, Refusal):
+        return six
+    return Orientation(table.segment(number).frame, six)
 
 
 def _alone(kernel, sort, table, number, et):
@@ -778,8 +781,10 @@ class Misused(Exception):
 # Whether a refused question's line begins with the question's number.
 NUMBERED_REFUSALS = False
 
-MARKS = {"ask": b"\xa5\x5b", "orient": b"\xa5\x5c", "alone": b"\xa5\x5d"}
-LAYOUTS = {"ask": "<2siid", "orient": "<2sid", "alone": "<2sId"}
+MARKS = {"ask": b"\xa5\x5b", "orient": b"\xa5\x5c", "alone": b"\xa5\x5d",
+         "alone_pck": b"\xa5\x5d"}
+LAYOUTS = {"ask": "<2siid", "orient": "<2sid", "alone": "<2sId",
+           "alone_pck": "<2sId"}
 
 
 def refused_line(refusal):
@@ -866,9 +871,17 @@ def ask_lines(kernel, table, records, rows):
 
 
 def orient_lines(kernel, table, records):
+    return turned_lines(orientation, kernel, table, records)
+
+
+def alone_pck_lines(kernel, table, records):
+    return turned_lines(alone_pck, kernel, table, records)
+
+
+def turned_lines(function, kernel, table, records):
     lines = []
-    for number, (body_frame, et) in enumerate(records):
-        answer = orientation(kernel, table, body_frame, et)
+    for number, (asked, et) in enumerate(records):
+        answer = function(kernel, table, asked, et)
         if isinstance(answer, Refusal):
             lines.append(refused_answer_line(number, answer))
         else:

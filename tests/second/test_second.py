@@ -1091,8 +1091,9 @@ class Evaluating(Base):
                                           2.0), 14)
         self.refuses(second.alone_pck(self.kernel, self.table, 4, 2.0),
                      12, 1)
-        self.same_bits(second.alone_pck(self.kernel, self.table, 0, 2.0),
-                       (1.0, 0.0, 0.0, 0.0, 0.0, 0.0))
+        answer = second.alone_pck(self.kernel, self.table, 0, 2.0)
+        self.assertEqual(answer.frame, self.table.segments[0].frame)
+        self.same_bits(answer.six, (1.0, 0.0, 0.0, 0.0, 0.0, 0.0))
 
 
 class Questions(Base):

@@ -1,2 +1,3 @@
 -- Laws that the functions' proofs and other crates cite.
 pub mod Lines
+pub mod TwoAnswers

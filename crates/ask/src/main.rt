@@ -1,18 +1,22 @@
 // ask KERNEL QUESTIONS [MATRIX]: puts the questions of a file to an SPK kernel and writes a line for each answer, or the refusal.
 // Every file is read before anything is written. A matrix file is none unless it has 72 bytes.
+use inquiry::Matrix;
 use refusal::Refusal;
 use streams::Input;
 
 // Asked with a matrix.
 fn reply_turned(kernel: &[u8], asked: &[u8], matrix: &[u8]) {
-    if streams::too_long(matrix.len()) {
-        streams::write_refusal(Refusal::InputTooLong);
-        return;
-    }
-    if matrix.len() == asking::MATRIX || inquiry::over(kernel, asked) {
-        asking::reply(kernel, asked, matrix);
-    } else {
-        streams::complain(b"MATRIX: not 72 bytes long\n");
+    let m = inquiry::matrix_for(kernel, asked, matrix);
+    match m {
+        Matrix::TooLong => {
+            streams::write_refusal(Refusal::InputTooLong);
+        }
+        Matrix::Unfit => {
+            streams::complain(b"MATRIX: not 72 bytes long\n");
+        }
+        Matrix::Taken => {
+            asking::reply(kernel, asked, matrix);
+        }
     }
 }
 

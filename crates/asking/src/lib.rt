@@ -31,9 +31,6 @@ const MARK: Mark = Mark {
     second: 0x5b,
 };
 
-// A matrix file has nine doubles.
-pub const MATRIX: usize = 72;
-
 // The numbers of an index that has room for 4,096 segments.
 const INDEX: usize = 16384;
 
@@ -233,7 +230,7 @@ fn reply_in(kernel: &[u8], asked: &[u8], ix: &mut [u16], wanted: Wanted, rot: [[
 // contract can speak of what is written.
 pub fn reply(kernel: &[u8], asked: &[u8], matrix: &[u8]) {
     let mut ix = [0u16; INDEX];
-    if matrix.len() == MATRIX {
+    if matrix.len() == inquiry::MATRIX {
         let to = Wanted::In(NaifFrame::EclipJ2000);
         reply_in(kernel, asked, &mut ix, to, rows(matrix));
     } else {

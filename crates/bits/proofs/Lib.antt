@@ -1,6 +1,7 @@
 -- Laws that several functions' proofs cite.
 pub mod Nan
 pub mod Finite
+pub mod TwoAnswers
 pub mod Whole
 pub mod Few
 pub mod Floor

@@ -1,8 +1,9 @@
 // cases FILE..: replays cases, and writes of each what `ask` or `orient` writes. A file is a run of blocks: four words (0 asked as it stands, 1 asked
-// in ECLIPJ2000, 2 a PCK kernel, 3 segments by their numbers; the lengths of the kernel that the table is made from, none if it is the kernel itself,
-// of the kernel and of the questions), 72 bytes of matrix if turned, and the three parts. tests/oracle/stored.py makes the stored files and their
-// lines, which are the given Rust's. It stands for a small host: the table goes by value, 256 places.
-ghost use Prim.Native.Nat.{_+_, _≤_};
+// in ECLIPJ2000, 2 a PCK kernel, 3 segments by their numbers, 4 those of a PCK kernel; the lengths of the kernel that the table is made from, none if
+// it is the kernel itself, of the kernel and of the questions), 72 bytes of matrix if turned, and the three parts. tests/oracle/stored.py makes the
+// stored files and their lines, which are the given Rust's, but for blocks of kind 4, which tests/vectors/alone.py makes with the second program's
+// lines. It stands for a small host: the table goes by value, 256 places.
+ghost use Prim.Native.Nat.{_+_, _*_, _≤_};
 ghost use lib.ListN.{length};
 use daf::Family;
 use frame::NaifFrame;
@@ -26,7 +27,7 @@ const MARK: Mark = Mark {
 fn matrix_len(kind: u32) -> usize
     ensures { λ r. ⌜ r ≤ 72 ⌝ }
 {
-    if kind == 1 { asking::MATRIX } else { 0 }
+    if kind == 1 { inquiry::MATRIX } else { 0 }
 }
 
 // Writes a line for each question to an SPK. The memory goes from question to question.
@@ -54,7 +55,7 @@ fn tell_states(kernel: &[u8], opened: Opened, asked: &[u8], matrix: &[u8]) {
             streams::write_refusal(refusal);
         }
         Outcome::Accepted => {
-            if matrix.len() == asking::MATRIX {
+            if matrix.len() == inquiry::MATRIX {
                 let to = Wanted::In(NaifFrame::EclipJ2000);
                 write_answers(kernel, table, asked, to, asking::rows(matrix));
             } else {
@@ -90,15 +91,28 @@ fn tell_oriented(kernel: &[u8], opened: Opened, asked: &[u8]) {
     }
 }
 
+// The number of the segment that question i asks for.
+fn number_at(asked: &[u8], i: usize) -> usize
+    requires { ⌜ 14 * i + 14 ≤ length (now asked) ⌝ }
+{
+    bits::le_u32(asked, SIZE * i + 2) as usize
+}
+
+// Its epoch.
+fn epoch_at(asked: &[u8], i: usize) -> f64
+    requires { ⌜ 14 * i + 14 ≤ length (now asked) ⌝ }
+{
+    bits::double_at(asked, SIZE * i + 6)
+}
+
 // Writes a line for each segment asked by its number.
 fn write_each(kernel: &[u8], table: Table, asked: &[u8]) {
     let n = asked.len() / SIZE;
     let mut i: usize = 0;
     while i < n {
-        let p = SIZE * i;
-        let number = bits::le_u32(asked, p + 2);
-        let et = bits::double_at(asked, p + 6);
-        if !asking::write_answer(i, owned::alone(kernel, table, number as usize, et)) {
+        let number = number_at(asked, i);
+        let et = epoch_at(asked, i);
+        if !asking::write_answer(i, owned::alone(kernel, table, number, et)) {
             return;
         }
         i += 1;
@@ -117,6 +131,32 @@ fn tell_alone(kernel: &[u8], opened: Opened, asked: &[u8]) {
     }
 }
 
+// Writes a line for each segment of a PCK asked by its number.
+fn write_turned(kernel: &[u8], table: Table, asked: &[u8]) {
+    let n = asked.len() / SIZE;
+    let mut i: usize = 0;
+    while i < n {
+        let number = number_at(asked, i);
+        let et = epoch_at(asked, i);
+        if !orienting::write_oriented(i, owned::orient_alone(kernel, table, number, et)) {
+            return;
+        }
+        i += 1;
+    }
+}
+
+// Segments of a PCK by their numbers: the refusal of the opening, or a line each.
+fn tell_turned(kernel: &[u8], opened: Opened, asked: &[u8]) {
+    let outcome = opened.outcome;
+    let table = opened.table;
+    match outcome {
+        Outcome::Refused(refusal) => {
+            streams::write_refusal(refusal);
+        }
+        Outcome::Accepted => write_turned(kernel, table, asked),
+    }
+}
+
 // Puts the questions to a kernel with the table of `origin`.
 fn tell(kind: u32, matrix: &[u8], origin: &[u8], kernel: &[u8], asked: &[u8]) {
     match kind {
@@ -126,6 +166,11 @@ fn tell(kind: u32, matrix: &[u8], origin: &[u8], kernel: &[u8], asked: &[u8]) {
         3 => tell_alone(
             kernel,
             inquiry::open(origin, Family::Spk, asked, SIZE, MARK),
+            asked,
+        ),
+        4 => tell_turned(
+            kernel,
+            inquiry::open(origin, Family::Pck, asked, SIZE, MARK),
             asked,
         ),
         _ => streams::complain(b"a block of another kind\n"),

@@ -81,7 +81,8 @@ module _ (ev ev' : Evaluation) (segs : List Segment) where
         go (Ended e) ih p = refl
         go (Onward on) ih p = ih on p
 
-    pub zero-alike : (leg : Leg) → TouchedOn ev segs n (Alike ev ev' segs) leg chainLimit → toZero ev segs n leg ≡ toZero ev' segs n leg
+    -- body 0 takes no step
+    pub zero-alike : (leg : Leg) → (isHome leg ≡ false → TouchedOn ev segs n (Alike ev ev' segs) leg chainLimit) → toZero ev segs n leg ≡ toZero ev' segs n leg
     zero-alike leg t =
         by-test (isHome leg) (λ e. zero-home ev segs n leg e ∙ sym (zero-home ev' segs n leg e))
-        (λ e. zero-walk ev segs n leg e ∙ walk-alike leg chainLimit t ∙ sym (zero-walk ev' segs n leg e))
+        (λ e. zero-walk ev segs n leg e ∙ walk-alike leg chainLimit (t e) ∙ sym (zero-walk ev' segs n leg e))

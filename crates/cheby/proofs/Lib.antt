@@ -5,3 +5,4 @@ pub mod Laws
 pub mod Record
 pub mod Own
 pub mod Cases
+pub mod TwoAnswers

@@ -1,5 +1,6 @@
 -- Laws of the definitions, one for each way through the code that meets them.
 pub mod Spelling
+pub mod TwoAnswers
 pub mod Walking
 pub mod Pigeons
 pub mod SecondTime

@@ -7,3 +7,4 @@ pub mod Names
 pub mod Addresses
 pub mod Reading
 pub mod Examples
+pub mod Paper

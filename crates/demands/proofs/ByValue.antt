@@ -20,9 +20,9 @@ use Rattle.opening.proofs.Planned.{none-answer}
 use Rattle.opening.proofs.Exact.{accepted, table-accepted}
 use Rattle.owned.proofs.Owning.{filled-empty, marked-table}
 use Rattle.spk.proofs.NoMemory as memory
-use Rattle.spk.proofs.Exactly as spk
+use Rattle.spk.proofs.Fits.{replied-never-14}
 use Rattle.pck.proofs.Exactly as pck
-use Rattle.demands.specs.Demands.{OpenedAs, LentAs, Demand3, Interleaving, OpenedFits, QuestionsFit, OrientationsFit, TwoAnswers}
+use Rattle.demands.specs.Demands.{OpenedAs, LentAs, Demand3, Interleaving, OpenedFits, QuestionsFit, OrientationsFit}
 use Rattle.demands.proofs.Lent.{marked-right, within, lent-fits, long}
 
 abbrev empty : List Segment
@@ -75,10 +75,7 @@ pub fits : OpenedFits
 fits f k t e = lent-fits f k empty (t .segments) (t .count) (as-lent f k t e)
 
 pub questions-fit : QuestionsFit
-questions-fit k t e m q = spk.never-14 tableLimit (evaluated Spk k) (t .segments) (t .count) m q (few Spk k t e) (fits Spk k t e)
+questions-fit k t e = replied-never-14 tableLimit (evaluated Spk k) (t .segments) (t .count) (few Spk k t e) (fits Spk k t e)
 
 pub orientations-fit : OrientationsFit
 orientations-fit k t e q = pck.never-14 tableLimit k (t .segments) (t .count) q (few Pck k t e) (fits Pck k t e)
-
-pub two-answers : TwoAnswers
-two-answers A d a b p q = p ∙ sym q

@@ -5,32 +5,25 @@ use mathlib.Core.Path.{_≡_, refl, sym, ap, ap₂, subst, _∙_}
 use mathlib.Core.Bool.{Bool, true, false, cond}
 use lib.Dec.{eqb}
 use mathlib.Core.List.{List, [], _∷_, map}
-use lib.IntN.{natAbs}
 use lib.ListN.{length}
 use Rattle.daf.specs.declared.Family.{Family}
 use Rattle.daf.specs.declared.Family.the-variants.{Spk, Pck}
 use Rattle.segment.specs.Evaluating.{evaluated}
 use Rattle.segment.specs.declared.Segment.{Segment}
-use Rattle.segment.proofs.OwnBytes.{Agrees, own-bytes}
 use Rattle.table.specs.Places.{limitOf}
-use Rattle.table.specs.Segments.{seg}
 use Rattle.index.specs.Parts.{hasRoom, RightIndex}
 use Rattle.spk.specs.declared.Memory.{Memory}
 use Rattle.spk.specs.declared.Answer.{Answer}
 use Rattle.spk.specs.declared.Asked.{Asked}
-use Rattle.spk.specs.declared.Way.{Way}
-use Rattle.spk.specs.declared.Way.the-variants.{Forward, Reversed}
-use Rattle.spk.specs.declared.Question.{Question}
-use Rattle.spk.specs.Runs.{Asking, fresh, replied, ofCustomer}
-use Rattle.spk.proofs.OwnBytes.{own-forward, own-reversed}
-use Rattle.indexed.specs.Opening.{indexAfter}
+use Rattle.spk.specs.Runs.{fresh, replied, ofCustomer}
+use Rattle.pck.specs.declared.Oriented.{Oriented}
 use Rattle.indexed.specs.Asking.{askedWith, repliedWith}
 use Rattle.indexed.proofs.Opening.{opened-right}
 use Rattle.indexed.proofs.Asking as asking
 use Rattle.indexed.proofs.Orienting as orienting
 use Rattle.demands.specs.Demands as lent
-use Rattle.demands.specs.Indexed.{IndexedAs, Lending, Untouched, indexedAnswers, IndexedDemand3, all, indexedServed, IndexedInterleaving, SameAsked, SameOriented}
-use Rattle.demands.proofs.Lent.{lent-demand-3, lent-interleaving}
+use Rattle.demands.specs.Indexed.{IndexedAs, Lending, Untouched, indexedAnswers, IndexedDemand3, all, indexedServed, IndexedInterleaving, SameAsked, SameOriented, IndexedQuestionsFit, IndexedOrientationsFit, IndexedOwnEvaluated, IndexedOwnBytes}
+use Rattle.demands.proofs.Lent.{lent-demand-3, lent-interleaving, lent-questions-fit, lent-orientations-fit, lent-own-evaluated, lent-own-bytes}
 
 -- the index that an opening left is right where it has room
 right : (f : Family) (k : List ℕ) (before : List Segment) (spare : List ℕ) (segs : List Segment) (ix : List ℕ) (n : ℕ) → IndexedAs f k before spare segs ix n
@@ -119,26 +112,29 @@ indexed-interleaving k before spare segs ix n left who m m' asks asks' u u' same
     (bares-barely k before spare segs ix n left asks u) (bares-barely k before spare segs ix n left asks' u') (of-bare who g asks ∙ ap (map g) same ∙ sym (of-bare who g asks'))
     ∙ sym (ap (ofCustomer who) (served-same k before spare segs ix n left m' asks' u'))
 
--- **own-bytes.** An answer through the index that names a segment, forward or reversed, is the same on every kernel of the same length that agrees on
--- that segment's own doubles, whatever else the kernels hold.
-abbrev pub IndexedOwn : (ℕ → Way) → Type 0
-IndexedOwn way =
-    (k : List ℕ) (before : List Segment) (spare : List ℕ) (segs : List Segment) (ix : List ℕ) (n : ℕ) → IndexedAs Spk k before spare segs ix n
-    → (now now' : List ℕ) (m : Memory) (q : Question) (i : ℕ)
-    → askedWith (limitOf (length segs)) (evaluated Spk now) segs n ix m q .answer .way ≡ way i
-    → length now ≡ length now' → Agrees now now' (natAbs (seg segs i .start)) (natAbs (seg segs i .end))
-    → askedWith (limitOf (length segs)) (evaluated Spk now) segs n ix m q ≡ askedWith (limitOf (length segs)) (evaluated Spk now') segs n ix m q
+-- ---- opened-fits: as without an index
+pub indexed-questions-fit : IndexedQuestionsFit
+indexed-questions-fit k before spare segs ix n left m a h =
+    lent-questions-fit k before segs n (left .0) m a
+    (ap (λ (x : Asked). x .answer .way)
+    (sym (asking.replied-same (limitOf (length segs)) (evaluated Spk k) segs n ix (right Spk k before spare segs ix n left) m a))
+    ∙ h)
 
-pub indexed-own-forward : IndexedOwn Forward
-indexed-own-forward k before spare segs ix n left now now' m q i w e a =
-    let same = same-asked k before spare segs ix n left now m q in
-    same
-    ∙ own-forward (limitOf (length segs)) (evaluated Spk now) (evaluated Spk now') segs n m q i (sym (ap (λ (r : Asked). r .answer .way) same) ∙ w) (λ et. own-bytes Spk now now' (seg segs i) i et e a)
-    ∙ sym (same-asked k before spare segs ix n left now' m q)
+pub indexed-orientations-fit : IndexedOrientationsFit
+indexed-orientations-fit k before spare segs ix n left q h =
+    lent-orientations-fit k before segs n (left .0) q (ap (λ (x : Oriented). x .outcome) (sym (same-oriented k before spare segs ix n left k q)) ∙ h)
 
-pub indexed-own-reversed : IndexedOwn Reversed
-indexed-own-reversed k before spare segs ix n left now now' m q i w e a =
-    let same = same-asked k before spare segs ix n left now m q in
-    same
-    ∙ own-reversed (limitOf (length segs)) (evaluated Spk now) (evaluated Spk now') segs n m q i (sym (ap (λ (r : Asked). r .answer .way) same) ∙ w) (λ et. own-bytes Spk now now' (seg segs i) i et e a)
-    ∙ sym (same-asked k before spare segs ix n left now' m q)
+-- ---- own bytes: as without an index, on whatever kernel
+pub indexed-own-evaluated : IndexedOwnEvaluated
+indexed-own-evaluated k before spare segs ix n left now now' m a t =
+    same now ∙ lent-own-evaluated now now' segs segs refl n m a t ∙ sym (same now')
+  where
+    same : (on : List ℕ) → repliedWith (limitOf (length segs)) (evaluated Spk on) segs n ix m a ≡ replied (limitOf (length segs)) (evaluated Spk on) segs n m a
+    same on = asking.replied-same (limitOf (length segs)) (evaluated Spk on) segs n ix (right Spk k before spare segs ix n left) m a
+
+pub indexed-own-bytes : IndexedOwnBytes
+indexed-own-bytes k before spare segs ix n left now now' m q i by g =
+    same now ∙ lent-own-bytes now now' segs segs refl n m q i (subst (lent.BySegment i) (same now) by) g ∙ sym (same now')
+  where
+    same : (on : List ℕ) → askedWith (limitOf (length segs)) (evaluated Spk on) segs n ix m q ≡ lent.lentAsked on segs n m q
+    same on = same-asked k before spare segs ix n left on m q

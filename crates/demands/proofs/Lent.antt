@@ -3,7 +3,7 @@
 use Prim.Native.Nat.{ℕ, zero, suc, _≤_, _<_}
 use mathlib.Core.Path.{_≡_, refl, sym, ap, _∙_, subst}
 use mathlib.Core.Bool.{Bool, true, false, cond}
-use mathlib.Core.Logic.{⊎-elim}
+use mathlib.Core.Logic.{inl, inr, ⊎-elim}
 use mathlib.Core.List.{List, [], _∷_, _++_, map}
 use native.Mathlib.Omega.{arith}
 use borrow.Author.Tests.{ltb-false}
@@ -35,11 +35,16 @@ use Rattle.spk.specs.declared.Memory.{Memory}
 use Rattle.spk.specs.declared.Answer.{Answer}
 use Rattle.spk.specs.Runs.{Asking, fresh, replied, run, serve, ofCustomer}
 use Rattle.spk.proofs.NoMemory as memory
-use Rattle.spk.proofs.Exactly as spk
+use Rattle.spk.proofs.Fits.{replied-never-14}
 use Rattle.spk.specs.Alone.{aloneAnswer}
-use Rattle.spk.proofs.InKernel.{AgreesAt, bytes-forward, bytes-reversed, bytes-alone}
+use Rattle.spk.proofs.InKernel.{AgreesAt, bytes-replied, bytes-forward, bytes-reversed, bytes-alone}
+use Rattle.spk.proofs.OwnBytes.{byState, turned-way, touched-replied}
+use Rattle.spk.specs.declared.Question.{Question}
+use Rattle.spk.specs.declared.Way.{Way}
+use Rattle.spk.specs.declared.Way.the-variants.{Forward, Reversed}
+use Rattle.spk.specs.Turning.{turnedAsked}
 use Rattle.pck.proofs.Exactly as pck
-use Rattle.demands.specs.Demands.{LentAs, Lending, Unwritten, lentAnswers, LentDemand3, all, lentServed, LentInterleaving, LentFits, LentQuestionsFit, LentOrientationsFit, SameDoubles, lentAsked, LentOwnBytes, LentOwnAlone, OthersStay, RefusedStays}
+use Rattle.demands.specs.Demands.{LentAs, Lending, Unwritten, lentAnswers, LentDemand3, all, lentServed, LentInterleaving, LentFits, LentQuestionsFit, LentOrientationsFit, SameDoubles, lentReplied, LentOwnEvaluated, lentAsked, lentAskedIn, BySegment, LentOwnBytes, LentOwnBytesIn, LentOwnAlone, OthersStay, RefusedStays}
 
 -- ---- a table as an opening left it
 module _ (f : Family) (k : List ℕ) (before segs : List Segment) (n : ℕ) (left : LentAs f k before segs n) where
@@ -188,7 +193,7 @@ lent-fits f k before segs n left i h et bad =
     opened-fits f k (summaryOf f k (p .at)) (segmentAt f k (p .at)) (seg segs i) (judged-fine f k (summaryOf f k (p .at)) (p .fine)) d i et bad
 
 pub lent-questions-fit : LentQuestionsFit
-lent-questions-fit k before segs n left m q = spk.never-14 (limitOf (length segs)) (evaluated Spk k) segs n m q (within Spk k before segs n left) (lent-fits Spk k before segs n left)
+lent-questions-fit k before segs n left = replied-never-14 (limitOf (length segs)) (evaluated Spk k) segs n (within Spk k before segs n left) (lent-fits Spk k before segs n left)
 
 pub lent-orientations-fit : LentOrientationsFit
 lent-orientations-fit k before segs n left q = pck.never-14 (limitOf (length segs)) k segs n q (within Pck k before segs n left) (lent-fits Pck k before segs n left)
@@ -221,15 +226,33 @@ refused-stays f k before r e = table-refused f (limitOf (length before)) k befor
 
 -- ---- own bytes
 agrees : (k k' : List ℕ) (segs : List Segment) (i : ℕ) → SameDoubles k k' (seg segs i) → AgreesAt k k' segs i
-agrees k k' segs i same = record { same = same }
+agrees k k' segs i g = record { here = g .here; there = g .there; same = g .same }
+
+pub lent-own-evaluated : LentOwnEvaluated
+lent-own-evaluated k k' segs segs' alike n m a t =
+    bytes-replied k k' (limitOf (length segs)) segs n m a
+    (touched-replied (limitOf (length segs)) (evaluated Spk k) segs n m (λ i. SameDoubles k k' (seg segs i)) (AgreesAt k k' segs) (agrees k k' segs) a t)
+    ∙ ap (λ (l : List Segment). lentReplied k' l n m a) (sym alike)
+
+-- by one segment, over one table
+by-one : (k k' : List ℕ) (segs : List Segment) (n : ℕ) (m : Memory) (q : Question) (i : ℕ) → BySegment i (lentAsked k segs n m q) → SameDoubles k k' (seg segs i)
+    → lentAsked k segs n m q ≡ lentAsked k' segs n m q
+by-one k k' segs n m q i by same =
+    ⊎-elim (λ w. bytes-forward k k' (limitOf (length segs)) segs n m q i w (agrees k k' segs i same))
+    (λ w. bytes-reversed k k' (limitOf (length segs)) segs n m q i w (agrees k k' segs i same)) by
 
 pub lent-own-bytes : LentOwnBytes
-lent-own-bytes k k' equal segs segs' alike n m q i by same =
-    ⊎-elim (λ w. bytes-forward k k' equal (limitOf (length segs)) segs n m q i w (agrees k k' segs i same))
-    (λ w. bytes-reversed k k' equal (limitOf (length segs)) segs n m q i w (agrees k k' segs i same)) by
-    ∙ ap (λ (l : List Segment). lentAsked k' l n m q) (sym alike)
+lent-own-bytes k k' segs segs' alike n m q i by same = by-one k k' segs n m q i by same ∙ ap (λ (l : List Segment). lentAsked k' l n m q) (sym alike)
+
+pub lent-own-bytes-in : LentOwnBytesIn
+lent-own-bytes-in k k' segs segs' alike n m q wanted rot i by same =
+    ap (turnedAsked wanted rot) (by-one k k' segs n m q i (⊎-elim (λ w. inl (whole (Forward i) refl w)) (λ w. inr (whole (Reversed i) refl w)) by) same)
+    ∙ ap (λ (l : List Segment). lentAskedIn k' l n m q wanted rot) (sym alike)
+  where
+    whole : (w : Way) → byState w ≡ true → lentAskedIn k segs n m q wanted rot .answer .way ≡ w → lentAsked k segs n m q .answer .way ≡ w
+    whole w t h = turned-way wanted rot (lentAsked k segs n m q .answer) w t h
 
 pub lent-own-alone : LentOwnAlone
-lent-own-alone k k' equal segs segs' alike n i et same =
-    bytes-alone k k' equal (limitOf (length segs)) segs n i et (agrees k k' segs i same)
+lent-own-alone k k' segs segs' alike n i et same =
+    bytes-alone k k' (limitOf (length segs)) segs n i et (agrees k k' segs i same)
     ∙ ap (λ (l : List Segment). aloneAnswer (limitOf (length l)) (evaluated Spk k') l n i et) (sym alike)

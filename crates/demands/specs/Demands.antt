@@ -9,7 +9,8 @@ use lib.ListN.{length}
 use lib.Ieee.{Float}
 use Rattle.refusal.specs.declared.Refusal.{Refusal}
 use Rattle.refusal.specs.declared.Refusal.the-variants.{TableUnfit}
-use Rattle.daf.specs.Addresses.{doubleOfAddress}
+use Rattle.daf.specs.Addresses.{doubleOfAddress, wholeDoubles}
+use Rattle.frame.specs.Frame.{Matrix}
 use Rattle.daf.specs.declared.Family.{Family}
 use Rattle.daf.specs.declared.Family.the-variants.{Spk, Pck}
 use Rattle.segment.specs.Evaluating.{evaluated}
@@ -25,11 +26,13 @@ use Rattle.opening.specs.declared.Found.the-variants as finding
 use Rattle.spk.specs.declared.Memory.{Memory}
 use Rattle.spk.specs.declared.Answer.{Answer}
 use Rattle.spk.specs.declared.Asked.{Asked}
-use Rattle.spk.specs.declared.Way.the-variants.{Forward, Reversed}
+use Rattle.spk.specs.declared.Way.the-variants as way
+use Rattle.spk.specs.declared.Wanted.{Wanted}
 use Rattle.spk.specs.Asking.{asked}
 use Rattle.spk.specs.Alone.{aloneAnswer}
+use Rattle.spk.specs.Turning.{askedIn}
+use Rattle.spk.specs.Touched.{TouchedReplied}
 use Rattle.spk.specs.declared.Question as spk
-use Rattle.spk.specs.When as spk-when
 use Rattle.pck.specs.declared.Question as pck
 use Rattle.pck.specs.When as pck-when
 use Rattle.spk.specs.Runs.{Asking, fresh, replied, run, serve, ofCustomer}
@@ -66,11 +69,11 @@ abbrev pub OpenedFits : Type 0
 OpenedFits =
     (f : Family) (k : List ℕ) (t : Table) → OpenedAs f k t → (i : ℕ) → i < t .count → (et : Float) → evaluated f k (seg (t .segments) i) i et ≡ Refused TableUnfit → ⊥
 
--- .. so no question to an opened SPK is, whatever the memory holds ..
+-- .. so no question to an opened SPK is, of every kind, whatever the memory holds ..
 abbrev pub QuestionsFit : Type 0
 QuestionsFit =
-    (k : List ℕ) (t : Table) → OpenedAs Spk k t → (m : Memory) (q : spk.Question)
-    → spk-when.RefusedBy tableLimit (evaluated Spk k) (t .segments) (t .count) m q TableUnfit → ⊥
+    (k : List ℕ) (t : Table) → OpenedAs Spk k t → (m : Memory) (a : Asking)
+    → replied tableLimit (evaluated Spk k) (t .segments) (t .count) m a .answer .way ≡ way.Refused TableUnfit → ⊥
 
 -- .. and none to an opened PCK.
 abbrev pub OrientationsFit : Type 0
@@ -129,34 +132,56 @@ LentFits =
 
 abbrev pub LentQuestionsFit : Type 0
 LentQuestionsFit =
-    (k : List ℕ) (before segs : List Segment) (n : ℕ) → LentAs Spk k before segs n → (m : Memory) (q : spk.Question)
-    → spk-when.RefusedBy (limitOf (length segs)) (evaluated Spk k) segs n m q TableUnfit → ⊥
+    (k : List ℕ) (before segs : List Segment) (n : ℕ) → LentAs Spk k before segs n → (m : Memory) (a : Asking)
+    → replied (limitOf (length segs)) (evaluated Spk k) segs n m a .answer .way ≡ way.Refused TableUnfit → ⊥
 
 abbrev pub LentOrientationsFit : Type 0
 LentOrientationsFit =
     (k : List ℕ) (before segs : List Segment) (n : ℕ) → LentAs Pck k before segs n → (q : pck.Question) → pck-when.RefusedBy (limitOf (length segs)) k segs n q TableUnfit → ⊥
 
--- **Own bytes**, of a lent table. Two kernels hold the same doubles at a segment's own addresses.
-abbrev pub SameDoubles : List ℕ → List ℕ → Segment → Type 0
-SameDoubles k k' s = (j : ℕ) → natAbs (s .start) ≤ j → j ≤ natAbs (s .end) → doubleOfAddress k j ≡ doubleOfAddress k' j
+-- **Own bytes**, of a lent table. Two kernels, of whatever lengths, hold a segment's doubles, and the same ones.
+pub record SameDoubles (k k' : List ℕ) (s : Segment) : Type 0 where
+  pub here : natAbs (s .end) ≤ wholeDoubles k
+  pub there : natAbs (s .end) ≤ wholeDoubles k'
+  pub same : (j : ℕ) → natAbs (s .start) ≤ j → j ≤ natAbs (s .end) → doubleOfAddress k j ≡ doubleOfAddress k' j
+
+abbrev pub lentReplied : List ℕ → List Segment → ℕ → Memory → Asking → Asked
+lentReplied k segs n m a = replied (limitOf (length segs)) (evaluated Spk k) segs n m a
+
+-- What a question of any kind comes to, answered or refused, is the same over every other kernel with the same doubles of the segments that it
+-- evaluates, and of no others: no other supplier's numbers flow into it. Nobody else writes the table in between: both questions find it alike.
+abbrev pub LentOwnEvaluated : Type 0
+LentOwnEvaluated =
+    (k k' : List ℕ) (segs segs' : List Segment) → segs' ≡ segs → (n : ℕ) (m : Memory) (a : Asking)
+    → TouchedReplied (limitOf (length segs)) (evaluated Spk k) segs n m a (λ i. SameDoubles k k' (seg segs i)) → lentReplied k segs n m a ≡ lentReplied k' segs' n m a
 
 abbrev pub lentAsked : List ℕ → List Segment → ℕ → Memory → spk.Question → Asked
 lentAsked k segs n m q = asked (limitOf (length segs)) (evaluated Spk k) segs n m q
 
+abbrev pub lentAskedIn : List ℕ → List Segment → ℕ → Memory → spk.Question → Wanted → Matrix → Asked
+lentAskedIn k segs n m q wanted rot = askedIn (limitOf (length segs)) (evaluated Spk k) segs n m q wanted rot
+
 -- An answer is by segment i, forward or reversed.
 abbrev pub BySegment : ℕ → Asked → Type 0
-BySegment i a = (a .answer .way ≡ Forward i) ⊎ (a .answer .way ≡ Reversed i)
+BySegment i a = (a .answer .way ≡ way.Forward i) ⊎ (a .answer .way ≡ way.Reversed i)
 
--- Such an answer is the same over every other kernel of that length with the segment's doubles, and so is the segment asked alone: no other
--- supplier's numbers flow into it. Nobody else writes the table in between: both questions find it alike.
+-- So an answer by one segment is the same over every other kernel with that segment's doubles ..
 abbrev pub LentOwnBytes : Type 0
 LentOwnBytes =
-    (k k' : List ℕ) → length k ≡ length k' → (segs segs' : List Segment) → segs' ≡ segs → (n : ℕ) (m : Memory) (q : spk.Question) (i : ℕ)
+    (k k' : List ℕ) (segs segs' : List Segment) → segs' ≡ segs → (n : ℕ) (m : Memory) (q : spk.Question) (i : ℕ)
     → BySegment i (lentAsked k segs n m q) → SameDoubles k k' (seg segs i) → lentAsked k segs n m q ≡ lentAsked k' segs' n m q
 
+-- .. in a frame too ..
+abbrev pub LentOwnBytesIn : Type 0
+LentOwnBytesIn =
+    (k k' : List ℕ) (segs segs' : List Segment) → segs' ≡ segs → (n : ℕ) (m : Memory) (q : spk.Question) (wanted : Wanted) (rot : Matrix) (i : ℕ)
+    → BySegment i (lentAskedIn k segs n m q wanted rot) → SameDoubles k k' (seg segs i)
+    → lentAskedIn k segs n m q wanted rot ≡ lentAskedIn k' segs' n m q wanted rot
+
+-- .. and so is the segment asked alone.
 abbrev pub LentOwnAlone : Type 0
 LentOwnAlone =
-    (k k' : List ℕ) → length k ≡ length k' → (segs segs' : List Segment) → segs' ≡ segs → (n i : ℕ) (et : Float) → SameDoubles k k' (seg segs i)
+    (k k' : List ℕ) (segs segs' : List Segment) → segs' ≡ segs → (n i : ℕ) (et : Float) → SameDoubles k k' (seg segs i)
     → aloneAnswer (limitOf (length segs)) (evaluated Spk k) segs n i et ≡ aloneAnswer (limitOf (length segs')) (evaluated Spk k') segs' n i et
 
 -- **Places past the count.** An accepted opening leaves every place from the count on as it was ..
@@ -169,11 +194,3 @@ abbrev pub RefusedStays : Type 0
 RefusedStays =
     (f : Family) (k : List ℕ) (before : List Segment) (r : Refusal)
     → found f (limitOf (length before)) k ≡ finding.Refused r → tableAfter f (limitOf (length before)) k before ≡ before
-
--- What a contract `ensures { λ r. ⌜ r ≡ d ⌝ }` permits: every public function has one, `d` being its definition at its arguments.
-abbrev pub Permitted : {A : Type 0} → A → A → Type 0
-Permitted d r = r ≡ d
-
--- **two-answers.** Any two answers that such a contract permits are equal.
-abbrev pub TwoAnswers : Type 1
-TwoAnswers = (A : Type 0) (d a b : A) → Permitted d a → Permitted d b → a ≡ b

@@ -4,22 +4,27 @@ use Prim.Native.Nat.{ℕ}
 use mathlib.Core.Path.{_≡_}
 use mathlib.Core.List.{List, [], _∷_, map}
 use lib.ListN.{length}
+use Rattle.refusal.specs.declared.Refusal.the-variants.{TableUnfit}
 use Rattle.daf.specs.declared.Family.{Family}
 use Rattle.daf.specs.declared.Family.the-variants.{Spk, Pck}
 use Rattle.segment.specs.Evaluating.{evaluated}
 use Rattle.segment.specs.declared.Segment.{Segment}
+use Rattle.table.specs.Segments.{seg}
 use Rattle.table.specs.Places.{limitOf}
 use Rattle.spk.specs.declared.Memory.{Memory}
 use Rattle.spk.specs.declared.Question as spk
 use Rattle.spk.specs.declared.Answer.{Answer}
+use Rattle.spk.specs.declared.Way.the-variants as way
 use Rattle.spk.specs.Asking.{asked}
 use Rattle.spk.specs.Runs.{Asking, fresh, ofCustomer}
+use Rattle.spk.specs.Touched.{TouchedReplied}
 use Rattle.pck.specs.declared.Question as pck
+use Rattle.pck.specs.declared.Outcome.the-variants as outcome
 use Rattle.pck.specs.Orienting.{oriented}
 use Rattle.indexed.specs.Opening.{indexAfter}
 use Rattle.indexed.specs.Asking.{askedWith, repliedWith}
 use Rattle.indexed.specs.Orienting.{orientedWith}
-use Rattle.demands.specs.Demands.{LentAs}
+use Rattle.demands.specs.Demands.{LentAs, SameDoubles, BySegment}
 
 -- A lent table and its index as an accepted opening of this kernel left them: they held `before` and `spare`, n segments were found, and they hold
 -- `segs` and `ix`. The index may have room for the segments or not.
@@ -80,3 +85,32 @@ abbrev pub SameOriented : Type 0
 SameOriented =
     (k : List ℕ) (before : List Segment) (spare : List ℕ) (segs : List Segment) (ix : List ℕ) (n : ℕ) → IndexedAs Pck k before spare segs ix n
     → (now : List ℕ) (q : pck.Question) → orientedWith (limitOf (length segs)) now segs n ix q ≡ oriented (limitOf (length segs)) now segs n q
+
+-- **opened-fits.** With the kernel unchanged, no question of any kind through the index that the opening left is refused with 14 ..
+abbrev pub IndexedQuestionsFit : Type 0
+IndexedQuestionsFit =
+    (k : List ℕ) (before : List Segment) (spare : List ℕ) (segs : List Segment) (ix : List ℕ) (n : ℕ) → IndexedAs Spk k before spare segs ix n
+    → (m : Memory) (a : Asking) → repliedWith (limitOf (length segs)) (evaluated Spk k) segs n ix m a .answer .way ≡ way.Refused TableUnfit → ⊥
+
+-- .. and no orientation.
+abbrev pub IndexedOrientationsFit : Type 0
+IndexedOrientationsFit =
+    (k : List ℕ) (before : List Segment) (spare : List ℕ) (segs : List Segment) (ix : List ℕ) (n : ℕ) → IndexedAs Pck k before spare segs ix n
+    → (q : pck.Question) → orientedWith (limitOf (length segs)) k segs n ix q .outcome ≡ outcome.Refused TableUnfit → ⊥
+
+-- **Own bytes.** What a question of any kind comes to through the index that the opening left, answered or refused, is the same over every other
+-- kernel with the same doubles of the segments that it evaluates, and of no others ..
+abbrev pub IndexedOwnEvaluated : Type 0
+IndexedOwnEvaluated =
+    (k : List ℕ) (before : List Segment) (spare : List ℕ) (segs : List Segment) (ix : List ℕ) (n : ℕ) → IndexedAs Spk k before spare segs ix n
+    → (now now' : List ℕ) (m : Memory) (a : Asking)
+    → TouchedReplied (limitOf (length segs)) (evaluated Spk now) segs n m a (λ i. SameDoubles now now' (seg segs i))
+    → repliedWith (limitOf (length segs)) (evaluated Spk now) segs n ix m a ≡ repliedWith (limitOf (length segs)) (evaluated Spk now') segs n ix m a
+
+-- .. so an answer by one segment is the same over every other kernel with that segment's doubles.
+abbrev pub IndexedOwnBytes : Type 0
+IndexedOwnBytes =
+    (k : List ℕ) (before : List Segment) (spare : List ℕ) (segs : List Segment) (ix : List ℕ) (n : ℕ) → IndexedAs Spk k before spare segs ix n
+    → (now now' : List ℕ) (m : Memory) (q : spk.Question) (i : ℕ)
+    → BySegment i (askedWith (limitOf (length segs)) (evaluated Spk now) segs n ix m q) → SameDoubles now now' (seg segs i)
+    → askedWith (limitOf (length segs)) (evaluated Spk now) segs n ix m q ≡ askedWith (limitOf (length segs)) (evaluated Spk now') segs n ix m q

@@ -1,2 +1,4 @@
 -- Laws on states and frames.
 pub mod Laws
+pub mod Finite
+pub mod TwoAnswers

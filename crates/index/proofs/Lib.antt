@@ -1,4 +1,5 @@
 -- Laws that callers cite.
+pub mod TwoAnswers
 pub mod Visits
 pub mod Turns
 pub mod Right

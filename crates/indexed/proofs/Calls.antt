@@ -49,6 +49,9 @@ use Rattle.table.specs.Places.{limitOf}
 use Rattle.pck.specs.declared.Question.{Question as BodyQuestion}
 use Rattle.pck.specs.declared.Oriented.{Oriented}
 use Rattle.opening.specs.declared.Plan.{Plan}
+use Rattle.spk.specs.Paper.{askedTold}
+use Rattle.pck.specs.Paper.{orientedTold}
+use Rattle.lent.proofs.Telling.{first-said}
 use Rattle.lent.proofs.Seg.{Seg, val, makes}
 use Rattle.lent.proofs.Matrices.{Mat, mat, mat-makes}
 use Rattle.lent.proofs.Rows.{Cho, cho, cho-tells, cho-makes, Que, que, que-makes, Mem, mmy, mmy-makes, Lg, leg, leg-makes, Stp, stp, stp-tells, stp-makes, Nex, nex, nex-makes, Eva, eva, eva-tells, Ans, ans, ans-tells, Ask, ask, ask-tells, Wan, wan, wan-makes, Bod, bod, bod-makes, Ori, ori, ori-tells, Pla, pla, pla-makes}
@@ -584,7 +587,7 @@ module _ {M : Type 1} (𝓤 : URA M) (H : Heap 𝓤) (A : Atoms 𝓤) (mem : Mem
       asks-state-by is-n is-m is-y = qed W (((‵ (flft κ q) ⊛ ‵ (flft κ′ q′) ⊛ ‵ (flft κ″ q″) ⊛ ‵ ftrue) ⊛ ‵ (ShrOwn u8 κ k)) ∷ ‵ (ShrOwn Seg κ′ t) ∷ ‵ (ShrOwn u16 κ″ x) ∷ []) ∵ split ! $ move ! (1 ∷ 2 ∷ 3 ∷ []) $ nothing ! $ owned ! Que (Is Que) (que-makes 𝓤 H A W) y _ is-y $ fjoin ! $ owned ! Mem (Is Mem) (mmy-makes 𝓤 H A W) m _ is-m $ fjoin ! $ owned ! usize (Is usize) (uint-makes 𝓤 H A W w64) n _ is-n $ fjoin ! $ move ! (3 ∷ 0 ∷ []) $ fjoin ! $ move ! (2 ∷ 0 ∷ []) $ fjoin ! $ move ! (1 ∷ 0 ∷ []) $ fjoin ! $ move ! (1 ∷ 0 ∷ []) $ join ! $ frame ! $ done !
 
       said-state-by : (r : Asked) → ent 𝓤 (ensured 𝓤 H A m-state-by.ended (m-state-by.clauses 𝓤 H A mem run) (κ, (κ′, (κ″, tt))) (k, (t, (x, (n, (m, (y, tt)))))) tt r) (fact 𝓤 (r ≡ out-state-by))
-      said-state-by r = exE 𝓤 _ (λ ws. snd∗ 𝓤 (sem 𝓤 H A (lasts m-state-by.ended (κ, (κ′, (κ″, tt))) (k, (t, (x, (n, (m, (y, tt)))))) ws)) (fact 𝓤 (r ≡ out-state-by)))
+      said-state-by r = exE 𝓤 _ (λ ws. first-said 𝓤 (sem 𝓤 H A (lasts m-state-by.ended (κ, (κ′, (κ″, tt))) (k, (t, (x, (n, (m, (y, tt)))))) ws)) (r ≡ out-state-by) (askedTold r ≡ askedTold out-state-by))
 
       module _ {C : Calls 𝓤 H} {Λ : Loops 𝓤 H} {E : Env 𝓤 H} {Γ : List (Item 𝓤)} {xs : List Opd} {d : Place} {rest : Body} {Q : Post 𝓤 H} where
         pub calls-state-by : FmC 𝓤 H (W .laws) C → Triple 𝓤 (C #state-by) the-state-by → Is usize n (vint w64 n ∷ []) → Is Mem m (mmy m ∷ []) → Is Que y (que y ∷ [])
@@ -608,7 +611,7 @@ module _ {M : Type 1} (𝓤 : URA M) (H : Heap 𝓤) (A : Atoms 𝓤) (mem : Mem
       asks-state-in-by is-n is-m is-y is-w is-b = qed W (((‵ (flft κ q) ⊛ ‵ (flft κ′ q′) ⊛ ‵ (flft κ″ q″) ⊛ ‵ ftrue) ⊛ ‵ (ShrOwn u8 κ k)) ∷ ‵ (ShrOwn Seg κ′ t) ∷ ‵ (ShrOwn u16 κ″ x) ∷ []) ∵ split ! $ move ! (1 ∷ 2 ∷ 3 ∷ []) $ nothing ! $ owned ! Mat (Is Mat) (mat-makes 𝓤 H A W) b _ is-b $ fjoin ! $ owned ! Wan (Is Wan) (wan-makes 𝓤 H A W) w _ is-w $ fjoin ! $ owned ! Que (Is Que) (que-makes 𝓤 H A W) y _ is-y $ fjoin ! $ owned ! Mem (Is Mem) (mmy-makes 𝓤 H A W) m _ is-m $ fjoin ! $ owned ! usize (Is usize) (uint-makes 𝓤 H A W w64) n _ is-n $ fjoin ! $ move ! (3 ∷ 0 ∷ []) $ fjoin ! $ move ! (2 ∷ 0 ∷ []) $ fjoin ! $ move ! (1 ∷ 0 ∷ []) $ fjoin ! $ move ! (1 ∷ 0 ∷ []) $ join ! $ frame ! $ done !
 
       said-state-in-by : (r : Asked) → ent 𝓤 (ensured 𝓤 H A m-state-in-by.ended (m-state-in-by.clauses 𝓤 H A mem run) (κ, (κ′, (κ″, tt))) (k, (t, (x, (n, (m, (y, (w, (b, tt)))))))) tt r) (fact 𝓤 (r ≡ out-state-in-by))
-      said-state-in-by r = exE 𝓤 _ (λ ws. snd∗ 𝓤 (sem 𝓤 H A (lasts m-state-in-by.ended (κ, (κ′, (κ″, tt))) (k, (t, (x, (n, (m, (y, (w, (b, tt)))))))) ws)) (fact 𝓤 (r ≡ out-state-in-by)))
+      said-state-in-by r = exE 𝓤 _ (λ ws. first-said 𝓤 (sem 𝓤 H A (lasts m-state-in-by.ended (κ, (κ′, (κ″, tt))) (k, (t, (x, (n, (m, (y, (w, (b, tt)))))))) ws)) (r ≡ out-state-in-by) (askedTold r ≡ askedTold out-state-in-by))
 
       module _ {C : Calls 𝓤 H} {Λ : Loops 𝓤 H} {E : Env 𝓤 H} {Γ : List (Item 𝓤)} {xs : List Opd} {d : Place} {rest : Body} {Q : Post 𝓤 H} where
         pub calls-state-in-by : FmC 𝓤 H (W .laws) C → Triple 𝓤 (C #state-in-by) the-state-in-by → Is usize n (vint w64 n ∷ []) → Is Mem m (mmy m ∷ []) → Is Que y (que y ∷ []) → Is Wan w (wan w ∷ []) → Is Mat b (mat b ∷ [])
@@ -680,7 +683,7 @@ module _ {M : Type 1} (𝓤 : URA M) (H : Heap 𝓤) (A : Atoms 𝓤) (mem : Mem
       asks-orient-by is-n is-y = qed W (((‵ (flft κ q) ⊛ ‵ (flft κ′ q′) ⊛ ‵ (flft κ″ q″) ⊛ ‵ ftrue) ⊛ ‵ (ShrOwn u8 κ k)) ∷ ‵ (ShrOwn Seg κ′ t) ∷ ‵ (ShrOwn u16 κ″ x) ∷ []) ∵ split ! $ move ! (1 ∷ 2 ∷ 3 ∷ []) $ nothing ! $ owned ! Bod (Is Bod) (bod-makes 𝓤 H A W) y _ is-y $ fjoin ! $ owned ! usize (Is usize) (uint-makes 𝓤 H A W w64) n _ is-n $ fjoin ! $ move ! (3 ∷ 0 ∷ []) $ fjoin ! $ move ! (2 ∷ 0 ∷ []) $ fjoin ! $ move ! (1 ∷ 0 ∷ []) $ fjoin ! $ move ! (1 ∷ 0 ∷ []) $ join ! $ frame ! $ done !
 
       said-orient-by : (r : Oriented) → ent 𝓤 (ensured 𝓤 H A m-orient-by.ended (m-orient-by.clauses 𝓤 H A mem run) (κ, (κ′, (κ″, tt))) (k, (t, (x, (n, (y, tt))))) tt r) (fact 𝓤 (r ≡ out-orient-by))
-      said-orient-by r = exE 𝓤 _ (λ ws. snd∗ 𝓤 (sem 𝓤 H A (lasts m-orient-by.ended (κ, (κ′, (κ″, tt))) (k, (t, (x, (n, (y, tt))))) ws)) (fact 𝓤 (r ≡ out-orient-by)))
+      said-orient-by r = exE 𝓤 _ (λ ws. first-said 𝓤 (sem 𝓤 H A (lasts m-orient-by.ended (κ, (κ′, (κ″, tt))) (k, (t, (x, (n, (y, tt))))) ws)) (r ≡ out-orient-by) (orientedTold r ≡ orientedTold out-orient-by))
 
       module _ {C : Calls 𝓤 H} {Λ : Loops 𝓤 H} {E : Env 𝓤 H} {Γ : List (Item 𝓤)} {xs : List Opd} {d : Place} {rest : Body} {Q : Post 𝓤 H} where
         pub calls-orient-by : FmC 𝓤 H (W .laws) C → Triple 𝓤 (C #orient-by) the-orient-by → Is usize n (vint w64 n ∷ []) → Is Bod y (bod y ∷ [])

@@ -7,3 +7,5 @@ pub mod Calls
 pub mod CallsMut
 pub mod Four
 pub mod Carrying
+pub mod Refusals
+pub mod TwoAnswers

@@ -10,10 +10,13 @@ ghost use Rattle.table.specs.Places.{lentLimit, limitOf};
 ghost use Rattle.table.specs.Marks.{markedTo};
 ghost use Rattle.opening.specs.Planning.{countIn, Fits, carriedOut};
 ghost use Rattle.opening.specs.Lent.{found, tableAfter};
+ghost use Rattle.opening.specs.Paper.{foundTold};
 ghost use Rattle.index.specs.Visiting.{startOf};
 ghost use Rattle.index.specs.Parts.{Roomy, lastOf, firstOf, aboveOf, hasRoom, filledIndex, RightIndex};
 ghost use Rattle.chain.specs.Walk.{follow};
 ghost use Rattle.spk.specs.Asking.{answerTo};
+ghost use Rattle.spk.specs.Paper.{askedTold};
+ghost use Rattle.pck.specs.Paper.{orientedTold};
 ghost use Rattle.indexed.specs.Stepping.{placeBy, stepBy, walkBy};
 ghost use Rattle.indexed.specs.Asking.{lastFound, forwardFound, chainedBy, backwardBy, askedThrough, askedWith, askedInWith};
 ghost use Rattle.indexed.specs.Orienting.{bodyFound, orientedThrough, orientedWith};
@@ -212,6 +215,7 @@ pub fn state(
     q: Question,
 ) -> Asked
     ensures { λ r. ⌜ r ≡ askedWith (limitOf (length (now (table .entry)))) (evaluated Spk (now (kernel .entry))) (now (table .entry)) n (now (ix .entry)) memory q ⌝ }
+    ensures told { λ r. ⌜ askedTold r ≡ askedTold (askedWith (limitOf (length (now (table .entry)))) (evaluated Spk (now (kernel .entry))) (now (table .entry)) n (now (ix .entry)) memory q) ⌝ }
 {
     if index::has_room(ix, n) {
         return through(kernel, table, ix, n, memory, q);
@@ -231,6 +235,7 @@ pub fn state_in(
     rot: [[f64; 3]; 3],
 ) -> Asked
     ensures { λ r. ⌜ r ≡ askedInWith (limitOf (length (now (table .entry)))) (evaluated Spk (now (kernel .entry))) (now (table .entry)) n (now (ix .entry)) memory q wanted rot ⌝ }
+    ensures told { λ r. ⌜ askedTold r ≡ askedTold (askedInWith (limitOf (length (now (table .entry)))) (evaluated Spk (now (kernel .entry))) (now (table .entry)) n (now (ix .entry)) memory q wanted rot) ⌝ }
 {
     let a = state(kernel, table, ix, n, memory, q);
     spk::turned(a, wanted, rot)
@@ -281,6 +286,7 @@ pub fn orient(
     q: pck::Question,
 ) -> pck::Oriented
     ensures { λ r. ⌜ r ≡ orientedWith (limitOf (length (now (table .entry)))) (now (kernel .entry)) (now (table .entry)) n (now (ix .entry)) q ⌝ }
+    ensures told { λ r. ⌜ orientedTold r ≡ orientedTold (orientedWith (limitOf (length (now (table .entry)))) (now (kernel .entry)) (now (table .entry)) n (now (ix .entry)) q) ⌝ }
 {
     if index::has_room(ix, n) {
         return turn(kernel, table, ix, n, q);
@@ -392,6 +398,7 @@ pub fn carry_out(table: &mut [Segment], ix: &mut [u16], kernel: &[u8], family: F
 // leaves both.
 pub fn open(table: &mut [Segment], ix: &mut [u16], kernel: &[u8], family: Family) -> Found
     ensures { λ r. ⌜ (r ≡ found family (limitOf (length (now (table .entry)))) (now (kernel .entry))) × ((now (table .exit) ≡ tableAfter family (limitOf (length (now (table .entry)))) (now (kernel .entry)) (now (table .entry))) × (now (ix .exit) ≡ indexAfter family (limitOf (length (now (table .entry)))) (now (kernel .entry)) (now (table .entry)) (now (ix .entry)))) ⌝ }
+    ensures told { λ r. ⌜ foundTold r ≡ foundTold (found family (limitOf (length (now (table .entry)))) (now (kernel .entry))) ⌝ }
 {
     let places = table.len();
     let p = opening::plan_of(kernel, family, places);

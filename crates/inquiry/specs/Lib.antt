@@ -1,2 +1,3 @@
 -- What the contracts of `inquiry` cite.
 pub mod Order
+pub mod When

@@ -1,8 +1,8 @@
 -- The refusals of a kernel with a file of records, in their order.
 use Prim.Native.Nat.{ℕ}
-use mathlib.Core.Bool.{Bool, not, _||_}
+use mathlib.Core.Bool.{Bool, cond, not, _||_}
 use mathlib.Core.List.{List, [], _∷_, _++_}
-use lib.Dec.{ltb}
+use lib.Dec.{eqb, ltb}
 use lib.ListN.{length}
 use Rattle.refusal.specs.declared.Refusal.the-variants.{InputTooLong, BadRecord}
 use Rattle.refusal.specs.Order.{Case, case, firstOf}
@@ -16,10 +16,21 @@ use Rattle.opening.specs.Planning.{startOf}
 use Rattle.records.specs.declared.Mark.{Mark}
 use Rattle.records.specs.Records.{recordsFit}
 use Rattle.streams.specs.Input.{inputLimit}
+use Rattle.inquiry.specs.declared.Matrix.{Matrix}
+use Rattle.inquiry.specs.declared.Matrix.the-variants.{TooLong, Unfit, Taken}
 
 -- An input is over the limit.
 abbrev pub tooLong : List ℕ → List ℕ → Bool
 tooLong kernel file = ltb inputLimit (length kernel) || ltb inputLimit (length file)
+
+-- A matrix file has nine doubles.
+abbrev pub matrixSize : ℕ
+matrixSize = 72
+
+-- A run with a matrix: 18 of any of the three files; then a matrix file of another length is none.
+unfoldable pub matrixFor : List ℕ → List ℕ → List ℕ → Matrix
+matrixFor kernel file matrix =
+    cond (ltb inputLimit (length matrix) || tooLong kernel file) TooLong (cond (eqb (length matrix) matrixSize) Taken Unfit)
 
 -- 19: a record is cut short, or doesn't begin with its mark.
 abbrev pub recordCases : ℕ → Mark → List ℕ → List Case

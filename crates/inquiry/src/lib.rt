@@ -2,7 +2,7 @@
 ghost use mathlib.Core.Path.{_≡_};
 ghost use Prim.Native.Nat.{_≤_};
 ghost use Rattle.table.specs.Places.{limitOf};
-ghost use Rattle.inquiry.specs.Order.{tooLong, planFor, openedFor};
+ghost use Rattle.inquiry.specs.Order.{tooLong, matrixFor, planFor, openedFor};
 use daf::Family;
 use opening::Opened;
 use opening::Plan;
@@ -10,11 +10,41 @@ use records::Mark;
 use refusal::Refusal;
 use table::Table;
 
+// What becomes of a run with a matrix file.
+pub enum Matrix {
+    // a file is over a program's limit: 18
+    TooLong,
+    // the matrix file is none: it has another length
+    Unfit,
+    // the run goes on, each state turned
+    Taken,
+}
+
+// A matrix file has nine doubles.
+pub const MATRIX: usize = 72;
+
 // The kernel or the file of records is over a program's limit.
 pub fn over(kernel: &[u8], file: &[u8]) -> bool
     ensures { λ r. ⌜ r ≡ tooLong (now (kernel .entry)) (now (file .entry)) ⌝ }
 {
     streams::too_long(kernel.len()) || streams::too_long(file.len())
+}
+
+// The tests of a matrix file: 18 of any of the three, then its length.
+pub fn matrix_for(kernel: &[u8], file: &[u8], matrix: &[u8]) -> Matrix
+    ensures { λ r. ⌜ r ≡ matrixFor (now (kernel .entry)) (now (file .entry)) (now (matrix .entry)) ⌝ }
+{
+    if streams::too_long(matrix.len()) {
+        return Matrix::TooLong;
+    }
+    if over(kernel, file) {
+        return Matrix::TooLong;
+    }
+    if matrix.len() == MATRIX {
+        Matrix::Taken
+    } else {
+        Matrix::Unfit
+    }
 }
 
 // The plan for a file of records of so many bytes behind this mark: 18, then the opening's refusals, then 19, or what is to be filled.

@@ -71,6 +71,9 @@ use Rattle.frame.specs.Frame.{Matrix}
 use Rattle.spk.specs.declared.Wanted.{Wanted}
 use Rattle.spk.specs.Turning.{turnedAsked, askedIn}
 use Rattle.spk.specs.Alone.{aloneAnswer}
+use Rattle.spk.specs.Paper.{answerTold, askedTold}
+use Rattle.pck.specs.Alone as turning
+use Rattle.pck.specs.Paper.{orientedTold}
 use Rattle.pck.specs.Orienting.{oriented}
 use Rattle.chain.specs.Steps.{isOver, endOf, legOf, begin}
 use Rattle.pck.specs.declared.Question.{Question as BodyQuestion}
@@ -79,6 +82,7 @@ use Rattle.pck.specs.Finding.{bodyHits, bodyAt}
 use Rattle.opening.specs.declared.Plan.{Plan}
 use Rattle.opening.specs.declared.Found.{Found}
 use Rattle.opening.specs.Planning.{Here, hereOf, planOf, countIn, cursorIn, foundIn, marksFor}
+use Rattle.lent.proofs.Telling.{first-said}
 use Rattle.lent.proofs.Seg.{Seg, val, tells, makes}
 use Rattle.lent.proofs.Matrices.{Mat, mat, mat-makes}
 use Rattle.lent.proofs.Rows.{mmy-tells, Cho, cho, cho-tells, cho-makes, Que, que, que-tells, que-makes, Mem, mmy, mmy-makes, Lg, leg, leg-tells, leg-makes, Stp, stp, stp-tells, stp-makes, Nex, nex, nex-tells, nex-makes, Eva, eva, eva-tells, eva-makes, Ans, ans, ans-tells, ans-makes, Ask, ask, ask-tells, ask-makes, Wan, wan, wan-makes, Bod, bod, bod-makes, Ori, ori, ori-tells, Fam, fam, fam-makes, Cur, cur, cur-tells, cur-makes, Pla, pla, pla-tells, pla-makes, Oco, oco, oco-tells}
@@ -200,6 +204,10 @@ use Rattle.pck.proofs.early as m-early-body
 use Rattle.pck.proofs.early.Symbol.{name as #early-body}
 use Rattle.pck.proofs.answered_by as m-answered-by
 use Rattle.pck.proofs.answered_by.Symbol.{name as #answered-by}
+use Rattle.pck.proofs.alone_by as m-alone-body
+use Rattle.pck.proofs.alone_by.Symbol.{name as #alone-body}
+use Rattle.lent.proofs.orient_alone as m-orient-alone
+use Rattle.lent.proofs.orient_alone.Symbol.{name as #orient-alone}
 use Rattle.pck.proofs.uncovered as m-uncovered
 use Rattle.pck.proofs.uncovered.Symbol.{name as #uncovered}
 use Rattle.spk.proofs.Memory.after as m-after
@@ -488,6 +496,12 @@ module _ {M : Type 1} (𝓤 : URA M) (H : Heap 𝓤) (A : Atoms 𝓤) (mem : Mem
 
   abbrev pub the-answered-by : Contract 𝓤
   the-answered-by = tripleOf 𝓤 H A m-answered-by.signature (m-answered-by.spec 𝓤 H A mem run)
+
+  abbrev pub the-alone-body : Contract 𝓤
+  the-alone-body = tripleOf 𝓤 H A m-alone-body.signature (m-alone-body.spec 𝓤 H A mem run)
+
+  abbrev pub the-orient-alone : Contract 𝓤
+  the-orient-alone = tripleOf 𝓤 H A m-orient-alone.signature (m-orient-alone.spec 𝓤 H A mem run)
 
   abbrev pub the-uncovered : Contract 𝓤
   the-uncovered = tripleOf 𝓤 H A m-uncovered.signature (m-uncovered.spec 𝓤 H A mem run)
@@ -1521,7 +1535,7 @@ module _ {M : Type 1} (𝓤 : URA M) (H : Heap 𝓤) (A : Atoms 𝓤) (mem : Mem
       asks-state is-n is-m is-x = qed W ((‵ (flft κ q) ⊛ ‵ (flft κ′ q′) ⊛ ‵ ftrue) ∷ ‵ (ShrOwn u8 κ k) ∷ ‵ (ShrOwn Seg κ′ t) ∷ []) ∵ move ! (1 ∷ 2 ∷ []) $ nothing ! $ owned ! Que (Is Que) (que-makes 𝓤 H A W) x _ is-x $ fjoin ! $ owned ! Mem (Is Mem) (mmy-makes 𝓤 H A W) m _ is-m $ fjoin ! $ owned ! usize (Is usize) (uint-makes 𝓤 H A W w64) n _ is-n $ fjoin ! $ move ! (2 ∷ 0 ∷ []) $ fjoin ! $ move ! (1 ∷ 0 ∷ []) $ fjoin ! $ move ! (1 ∷ 0 ∷ []) $ join ! $ frame ! $ done !
 
       said-state : (r : Asked) → ent 𝓤 (ensured 𝓤 H A m-state.ended (m-state.clauses 𝓤 H A mem run) (κ, (κ′, tt)) (k, (t, (n, (m, (x, tt))))) tt r) (fact 𝓤 (r ≡ out-state))
-      said-state r = exE 𝓤 _ (λ ws. snd∗ 𝓤 (sem 𝓤 H A (lasts m-state.ended (κ, (κ′, tt)) (k, (t, (n, (m, (x, tt))))) ws)) (fact 𝓤 (r ≡ out-state)))
+      said-state r = exE 𝓤 _ (λ ws. first-said 𝓤 (sem 𝓤 H A (lasts m-state.ended (κ, (κ′, tt)) (k, (t, (n, (m, (x, tt))))) ws)) (r ≡ out-state) (askedTold r ≡ askedTold out-state))
 
       module _ {C : Calls 𝓤 H} {Λ : Loops 𝓤 H} {E : Env 𝓤 H} {Γ : List (Item 𝓤)} {xs : List Opd} {d : Place} {rest : Body} {Q : Post 𝓤 H} where
         pub calls-state : FmC 𝓤 H (W .laws) C → Triple 𝓤 (C #state) the-state → Is usize n (vint w64 n ∷ []) → Is Mem m (mmy m ∷ []) → Is Que x (que x ∷ [])
@@ -1662,7 +1676,7 @@ module _ {M : Type 1} (𝓤 : URA M) (H : Heap 𝓤) (A : Atoms 𝓤) (mem : Mem
       asks-state-in is-n is-m is-x is-w is-b = qed W ((‵ (flft κ q) ⊛ ‵ (flft κ′ q′) ⊛ ‵ ftrue) ∷ ‵ (ShrOwn u8 κ k) ∷ ‵ (ShrOwn Seg κ′ t) ∷ []) ∵ move ! (1 ∷ 2 ∷ []) $ nothing ! $ owned ! Mat (Is Mat) (mat-makes 𝓤 H A W) b _ is-b $ fjoin ! $ owned ! Wan (Is Wan) (wan-makes 𝓤 H A W) w _ is-w $ fjoin ! $ owned ! Que (Is Que) (que-makes 𝓤 H A W) x _ is-x $ fjoin ! $ owned ! Mem (Is Mem) (mmy-makes 𝓤 H A W) m _ is-m $ fjoin ! $ owned ! usize (Is usize) (uint-makes 𝓤 H A W w64) n _ is-n $ fjoin ! $ move ! (2 ∷ 0 ∷ []) $ fjoin ! $ move ! (1 ∷ 0 ∷ []) $ fjoin ! $ move ! (1 ∷ 0 ∷ []) $ join ! $ frame ! $ done !
 
       said-state-in : (r : Asked) → ent 𝓤 (ensured 𝓤 H A m-state-in.ended (m-state-in.clauses 𝓤 H A mem run) (κ, (κ′, tt)) (k, (t, (n, (m, (x, (w, (b, tt))))))) tt r) (fact 𝓤 (r ≡ out-state-in))
-      said-state-in r = exE 𝓤 _ (λ ws. snd∗ 𝓤 (sem 𝓤 H A (lasts m-state-in.ended (κ, (κ′, tt)) (k, (t, (n, (m, (x, (w, (b, tt))))))) ws)) (fact 𝓤 (r ≡ out-state-in)))
+      said-state-in r = exE 𝓤 _ (λ ws. first-said 𝓤 (sem 𝓤 H A (lasts m-state-in.ended (κ, (κ′, tt)) (k, (t, (n, (m, (x, (w, (b, tt))))))) ws)) (r ≡ out-state-in) (askedTold r ≡ askedTold out-state-in))
 
       module _ {C : Calls 𝓤 H} {Λ : Loops 𝓤 H} {E : Env 𝓤 H} {Γ : List (Item 𝓤)} {xs : List Opd} {d : Place} {rest : Body} {Q : Post 𝓤 H} where
         pub calls-state-in : FmC 𝓤 H (W .laws) C → Triple 𝓤 (C #state-in) the-state-in → Is usize n (vint w64 n ∷ []) → Is Mem m (mmy m ∷ []) → Is Que x (que x ∷ []) → Is Wan w (wan w ∷ []) → Is Mat b (mat b ∷ [])
@@ -1686,7 +1700,7 @@ module _ {M : Type 1} (𝓤 : URA M) (H : Heap 𝓤) (A : Atoms 𝓤) (mem : Mem
       asks-alone is-n is-i is-z = qed W ((‵ (flft κ q) ⊛ ‵ (flft κ′ q′) ⊛ ‵ ftrue) ∷ ‵ (ShrOwn u8 κ k) ∷ ‵ (ShrOwn Seg κ′ t) ∷ []) ∵ move ! (1 ∷ 2 ∷ []) $ nothing ! $ owned ! f64 (Is f64) (float-makes 𝓤 H A W binary64) z _ is-z $ fjoin ! $ owned ! usize (Is usize) (uint-makes 𝓤 H A W w64) i _ is-i $ fjoin ! $ owned ! usize (Is usize) (uint-makes 𝓤 H A W w64) n _ is-n $ fjoin ! $ move ! (2 ∷ 0 ∷ []) $ fjoin ! $ move ! (1 ∷ 0 ∷ []) $ fjoin ! $ move ! (1 ∷ 0 ∷ []) $ join ! $ frame ! $ done !
 
       said-alone : (r : Answer) → ent 𝓤 (ensured 𝓤 H A m-alone.ended (m-alone.clauses 𝓤 H A mem run) (κ, (κ′, tt)) (k, (t, (n, (i, (z, tt))))) tt r) (fact 𝓤 (r ≡ out-alone))
-      said-alone r = exE 𝓤 _ (λ ws. snd∗ 𝓤 (sem 𝓤 H A (lasts m-alone.ended (κ, (κ′, tt)) (k, (t, (n, (i, (z, tt))))) ws)) (fact 𝓤 (r ≡ out-alone)))
+      said-alone r = exE 𝓤 _ (λ ws. first-said 𝓤 (sem 𝓤 H A (lasts m-alone.ended (κ, (κ′, tt)) (k, (t, (n, (i, (z, tt))))) ws)) (r ≡ out-alone) (answerTold r ≡ answerTold out-alone))
 
       module _ {C : Calls 𝓤 H} {Λ : Loops 𝓤 H} {E : Env 𝓤 H} {Γ : List (Item 𝓤)} {xs : List Opd} {d : Place} {rest : Body} {Q : Post 𝓤 H} where
         pub calls-alone : FmC 𝓤 H (W .laws) C → Triple 𝓤 (C #alone) the-alone → Is usize n (vint w64 n ∷ []) → Is usize i (vint w64 i ∷ []) → Is f64 z (vfloat binary64 z ∷ [])
@@ -1710,7 +1724,7 @@ module _ {M : Type 1} (𝓤 : URA M) (H : Heap 𝓤) (A : Atoms 𝓤) (mem : Mem
       asks-orient is-n is-x = qed W ((‵ (flft κ q) ⊛ ‵ (flft κ′ q′) ⊛ ‵ ftrue) ∷ ‵ (ShrOwn u8 κ k) ∷ ‵ (ShrOwn Seg κ′ t) ∷ []) ∵ move ! (1 ∷ 2 ∷ []) $ nothing ! $ owned ! Bod (Is Bod) (bod-makes 𝓤 H A W) x _ is-x $ fjoin ! $ owned ! usize (Is usize) (uint-makes 𝓤 H A W w64) n _ is-n $ fjoin ! $ move ! (2 ∷ 0 ∷ []) $ fjoin ! $ move ! (1 ∷ 0 ∷ []) $ fjoin ! $ move ! (1 ∷ 0 ∷ []) $ join ! $ frame ! $ done !
 
       said-orient : (r : Oriented) → ent 𝓤 (ensured 𝓤 H A m-orient.ended (m-orient.clauses 𝓤 H A mem run) (κ, (κ′, tt)) (k, (t, (n, (x, tt)))) tt r) (fact 𝓤 (r ≡ out-orient))
-      said-orient r = exE 𝓤 _ (λ ws. snd∗ 𝓤 (sem 𝓤 H A (lasts m-orient.ended (κ, (κ′, tt)) (k, (t, (n, (x, tt)))) ws)) (fact 𝓤 (r ≡ out-orient)))
+      said-orient r = exE 𝓤 _ (λ ws. first-said 𝓤 (sem 𝓤 H A (lasts m-orient.ended (κ, (κ′, tt)) (k, (t, (n, (x, tt)))) ws)) (r ≡ out-orient) (orientedTold r ≡ orientedTold out-orient))
 
       module _ {C : Calls 𝓤 H} {Λ : Loops 𝓤 H} {E : Env 𝓤 H} {Γ : List (Item 𝓤)} {xs : List Opd} {d : Place} {rest : Body} {Q : Post 𝓤 H} where
         pub calls-orient : FmC 𝓤 H (W .laws) C → Triple 𝓤 (C #orient) the-orient → Is usize n (vint w64 n ∷ []) → Is Bod x (bod x ∷ [])
@@ -1838,6 +1852,54 @@ module _ {M : Type 1} (𝓤 : URA M) (H : Heap 𝓤) (A : Atoms 𝓤) (mem : Mem
         calls-answered-by fm known within is-i is-s is-x os go =
             passes-shr u8 κ q k (the-answered-by .pre to-answered-by) (asks-answered-by within is-i is-s is-x)
             (calls-told fm the-answered-by to-answered-by (known to-answered-by) Ori ori (ori-tells) (‵ (flft κ q) ⊛ ‵ ftrue) (λ r. ensured 𝓤 H A m-answered-by.ended (m-answered-by.clauses 𝓤 H A mem run) (κ, tt) (k, (i, (s, (x, tt)))) tt r) (λ u. id⊢ 𝓤 _) out-answered-by said-answered-by os (λ is. split ! $ move ! (1 ∷ []) $ drop ! $ move ! (1 ∷ 0 ∷ []) $ go is))
+
+  -- ---- alone-body
+  module _ (κ : Lft) (q : Share) (k : RefT (List ℕ)) (p : ℕ) (n : ℕ) (i : ℕ) (z : Float) (s : Segment) where
+    abbrev pub to-alone-body : the-alone-body .Ghost
+    to-alone-body = (((κ, tt), (q, tt), tt, (k, (p, (n, (i, (z, (s, tt)))))), (sliceVal (k .ptr) (length (k .now)) ∷ [], (vint w64 p ∷ [], (vint w64 n ∷ [], (vint w64 i ∷ [], (vfloat binary64 z ∷ [], (val s ∷ [], tt))))))), tt)
+
+    abbrev pub out-alone-body : Oriented
+    out-alone-body = turning.aloneWith (limitOf p) (k .now) n i z s
+
+    module _ (W : Given 𝓤 H A) where
+      asks-alone-body : Is usize p (vint w64 p ∷ []) → Is usize n (vint w64 n ∷ []) → Is usize i (vint w64 i ∷ []) → Is f64 z (vfloat binary64 z ∷ []) → Is Seg s (val s ∷ []) → ent 𝓤 (sep 𝓤 (A .lft κ q) (sem 𝓤 H A (ShrOwn u8 κ k))) (the-alone-body .pre to-alone-body)
+      asks-alone-body is-p is-n is-i is-z is-s = qed W (‵ (flft κ q) ∷ ‵ (ShrOwn u8 κ k) ∷ []) ∵ nothing ! $ move ! (1 ∷ 0 ∷ []) $ join ! $ move ! (1 ∷ []) $ nothing ! $ owned ! Seg (Is Seg) (makes 𝓤 H A W) s _ is-s $ fjoin ! $ owned ! f64 (Is f64) (float-makes 𝓤 H A W binary64) z _ is-z $ fjoin ! $ owned ! usize (Is usize) (uint-makes 𝓤 H A W w64) i _ is-i $ fjoin ! $ owned ! usize (Is usize) (uint-makes 𝓤 H A W w64) n _ is-n $ fjoin ! $ owned ! usize (Is usize) (uint-makes 𝓤 H A W w64) p _ is-p $ fjoin ! $ move ! (1 ∷ 0 ∷ []) $ fjoin ! $ move ! (1 ∷ 0 ∷ []) $ join ! $ frame ! $ done !
+
+      said-alone-body : (r : Oriented) → ent 𝓤 (ensured 𝓤 H A m-alone-body.ended (m-alone-body.clauses 𝓤 H A mem run) (κ, tt) (k, (p, (n, (i, (z, (s, tt)))))) tt r) (fact 𝓤 (r ≡ out-alone-body))
+      said-alone-body r = exE 𝓤 _ (λ ws. snd∗ 𝓤 (sem 𝓤 H A (lasts m-alone-body.ended (κ, tt) (k, (p, (n, (i, (z, (s, tt)))))) ws)) (fact 𝓤 (r ≡ out-alone-body)))
+
+      module _ {C : Calls 𝓤 H} {Λ : Loops 𝓤 H} {E : Env 𝓤 H} {Γ : List (Item 𝓤)} {xs : List Opd} {d : Place} {rest : Body} {Q : Post 𝓤 H} where
+        pub calls-alone-body : FmC 𝓤 H (W .laws) C → Triple 𝓤 (C #alone-body) the-alone-body → Is usize p (vint w64 p ∷ []) → Is usize n (vint w64 n ∷ []) → Is usize i (vint w64 i ∷ []) → Is f64 z (vfloat binary64 z ∷ []) → Is Seg s (val s ∷ [])
+            → Opds (Go {0}) W (raw (the-alone-body .pre to-alone-body) ∷ ‵ (ShrOwn u8 κ k) ∷ Γ) E xs (sliceVal (k .ptr) (length (k .now)) ∷ vint w64 p ∷ vint w64 n ∷ vint w64 i ∷ vfloat binary64 z ∷ val s ∷ [])
+            → (Is Ori out-alone-body (ori out-alone-body ∷ []) → Sq W (‵ (ShrOwn u8 κ k) ∷ ‵ (flft κ q) ∷ Γ) (lands C Λ E d (ori out-alone-body) rest Q))
+            → Sq W (‵ (ShrOwn u8 κ k) ∷ ‵ (flft κ q) ∷ Γ) (runs C Λ E (seq (call #alone-body xs d) rest) Q)
+        calls-alone-body fm known is-p is-n is-i is-z is-s os go =
+            passes-shr u8 κ q k (the-alone-body .pre to-alone-body) (asks-alone-body is-p is-n is-i is-z is-s)
+            (calls-told fm the-alone-body to-alone-body (known to-alone-body) Ori ori (ori-tells) (‵ (flft κ q) ⊛ ‵ ftrue) (λ r. ensured 𝓤 H A m-alone-body.ended (m-alone-body.clauses 𝓤 H A mem run) (κ, tt) (k, (p, (n, (i, (z, (s, tt)))))) tt r) (λ u. id⊢ 𝓤 _) out-alone-body said-alone-body os (λ is. split ! $ move ! (1 ∷ []) $ drop ! $ move ! (1 ∷ 0 ∷ []) $ go is))
+
+  -- ---- orient-alone
+  module _ (κ κ′ : Lft) (q q′ : Share) (k : RefT (List ℕ)) (t : RefT (List Segment)) (n : ℕ) (i : ℕ) (z : Float) where
+    abbrev pub to-orient-alone : the-orient-alone .Ghost
+    to-orient-alone = (((κ, (κ′, tt)), (q, (q′, tt)), tt, (k, (t, (n, (i, (z, tt))))), (sliceVal (k .ptr) (length (k .now)) ∷ [], (sliceVal (t .ptr) (length (t .now)) ∷ [], (vint w64 n ∷ [], (vint w64 i ∷ [], (vfloat binary64 z ∷ [], tt)))))), tt)
+
+    abbrev pub out-orient-alone : Oriented
+    out-orient-alone = turning.aloneOriented (limitOf (length (t .now))) (k .now) (t .now) n i z
+
+    module _ (W : Given 𝓤 H A) where
+      asks-orient-alone : Is usize n (vint w64 n ∷ []) → Is usize i (vint w64 i ∷ []) → Is f64 z (vfloat binary64 z ∷ []) → ent 𝓤 (⋆ 𝓤 H A ((‵ (flft κ q) ⊛ ‵ (flft κ′ q′) ⊛ ‵ ftrue) ∷ ‵ (ShrOwn u8 κ k) ∷ ‵ (ShrOwn Seg κ′ t) ∷ [])) (the-orient-alone .pre to-orient-alone)
+      asks-orient-alone is-n is-i is-z = qed W ((‵ (flft κ q) ⊛ ‵ (flft κ′ q′) ⊛ ‵ ftrue) ∷ ‵ (ShrOwn u8 κ k) ∷ ‵ (ShrOwn Seg κ′ t) ∷ []) ∵ move ! (1 ∷ 2 ∷ []) $ nothing ! $ owned ! f64 (Is f64) (float-makes 𝓤 H A W binary64) z _ is-z $ fjoin ! $ owned ! usize (Is usize) (uint-makes 𝓤 H A W w64) i _ is-i $ fjoin ! $ owned ! usize (Is usize) (uint-makes 𝓤 H A W w64) n _ is-n $ fjoin ! $ move ! (2 ∷ 0 ∷ []) $ fjoin ! $ move ! (1 ∷ 0 ∷ []) $ fjoin ! $ move ! (1 ∷ 0 ∷ []) $ join ! $ frame ! $ done !
+
+      said-orient-alone : (r : Oriented) → ent 𝓤 (ensured 𝓤 H A m-orient-alone.ended (m-orient-alone.clauses 𝓤 H A mem run) (κ, (κ′, tt)) (k, (t, (n, (i, (z, tt))))) tt r) (fact 𝓤 (r ≡ out-orient-alone))
+      said-orient-alone r = exE 𝓤 _ (λ ws. first-said 𝓤 (sem 𝓤 H A (lasts m-orient-alone.ended (κ, (κ′, tt)) (k, (t, (n, (i, (z, tt))))) ws)) (r ≡ out-orient-alone) (orientedTold r ≡ orientedTold out-orient-alone))
+
+      module _ {C : Calls 𝓤 H} {Λ : Loops 𝓤 H} {E : Env 𝓤 H} {Γ : List (Item 𝓤)} {xs : List Opd} {d : Place} {rest : Body} {Q : Post 𝓤 H} where
+        pub calls-orient-alone : FmC 𝓤 H (W .laws) C → Triple 𝓤 (C #orient-alone) the-orient-alone → Is usize n (vint w64 n ∷ []) → Is usize i (vint w64 i ∷ []) → Is f64 z (vfloat binary64 z ∷ [])
+            → Opds (Go {0}) W (raw (the-orient-alone .pre to-orient-alone) ∷ ‵ (ShrOwn Seg κ′ t) ∷ ‵ (ShrOwn u8 κ k) ∷ Γ) E xs (sliceVal (k .ptr) (length (k .now)) ∷ sliceVal (t .ptr) (length (t .now)) ∷ vint w64 n ∷ vint w64 i ∷ vfloat binary64 z ∷ [])
+            → (Is Ori out-orient-alone (ori out-orient-alone ∷ []) → Sq W (‵ (ShrOwn u8 κ k) ∷ ‵ (flft κ q) ∷ ‵ (ShrOwn Seg κ′ t) ∷ ‵ (flft κ′ q′) ∷ Γ) (lands C Λ E d (ori out-orient-alone) rest Q))
+            → Sq W (‵ (ShrOwn u8 κ k) ∷ ‵ (flft κ q) ∷ ‵ (ShrOwn Seg κ′ t) ∷ ‵ (flft κ′ q′) ∷ Γ) (runs C Λ E (seq (call #orient-alone xs d) rest) Q)
+        calls-orient-alone fm known is-n is-i is-z os go =
+            passes-both u8 Seg κ κ′ q q′ k t (the-orient-alone .pre to-orient-alone) (asks-orient-alone is-n is-i is-z)
+            (calls-told fm the-orient-alone to-orient-alone (known to-orient-alone) Ori ori (ori-tells) (‵ (flft κ q) ⊛ ‵ (flft κ′ q′) ⊛ ‵ ftrue) (λ r. ensured 𝓤 H A m-orient-alone.ended (m-orient-alone.clauses 𝓤 H A mem run) (κ, (κ′, tt)) (k, (t, (n, (i, (z, tt))))) tt r) (λ u. id⊢ 𝓤 _) out-orient-alone said-orient-alone os (λ is. split ! $ move ! (1 ∷ []) $ split ! $ move ! (1 ∷ []) $ drop ! $ move ! (3 ∷ 1 ∷ 2 ∷ 0 ∷ []) $ go is))
 
   -- ---- uncovered
   module _ (x : BodyQuestion) where

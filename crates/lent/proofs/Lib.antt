@@ -7,4 +7,6 @@ pub mod Owner
 pub mod Rows
 pub mod Seg
 pub mod Shared
+pub mod TwoAnswers
 pub mod Walking
+pub mod Telling

@@ -14,6 +14,7 @@ ghost use Rattle.table.specs.Segments.{seg};
 ghost use Rattle.table.specs.Steps.{segOr};
 ghost use Rattle.opening.specs.Planning.{Ready, filled, Fits, carriedOut};
 ghost use Rattle.opening.specs.Lent.{found, tableAfter};
+ghost use Rattle.opening.specs.Paper.{foundTold};
 ghost use Rattle.chain.specs.Step.{stepFrom};
 ghost use Rattle.chain.specs.Walk.{follow, walkFrom};
 ghost use Rattle.spk.specs.Alone.{aloneAnswer};
@@ -21,8 +22,11 @@ ghost use Rattle.spk.specs.Asking.{chained, backward, answerTo, asked};
 ghost use Rattle.spk.specs.Choosing.{recall, forwardIn, lastReversed};
 ghost use Rattle.spk.specs.Questions.{hits};
 ghost use Rattle.spk.specs.Turning.{askedIn};
+ghost use Rattle.spk.specs.Paper.{answerTold, askedTold};
+ghost use Rattle.pck.specs.Alone.{aloneOriented};
 ghost use Rattle.pck.specs.Finding.{bodyHits};
 ghost use Rattle.pck.specs.Orienting.{oriented};
+ghost use Rattle.pck.specs.Paper.{orientedTold};
 use chain::Leg;
 use chain::Next;
 use chain::Step;
@@ -183,6 +187,7 @@ fn backward(kernel: &[u8], table: &[Segment], n: usize, q: Question) -> Answer
 // A question with a memory, over the first n of the lent segments.
 pub fn state(kernel: &[u8], table: &[Segment], n: usize, memory: Memory, q: Question) -> Asked
     ensures { λ r. ⌜ r ≡ asked (limitOf (length (now (table .entry)))) (evaluated Spk (now (kernel .entry))) (now (table .entry)) n memory q ⌝ }
+    ensures told { λ r. ⌜ askedTold r ≡ askedTold (asked (limitOf (length (now (table .entry)))) (evaluated Spk (now (kernel .entry))) (now (table .entry)) n memory q) ⌝ }
 {
     let places = table_len(table);
     if spk::is_early(places, n, q) {
@@ -211,6 +216,7 @@ pub fn state_in(
     rot: [[f64; 3]; 3],
 ) -> Asked
     ensures { λ r. ⌜ r ≡ askedIn (limitOf (length (now (table .entry)))) (evaluated Spk (now (kernel .entry))) (now (table .entry)) n memory q wanted rot ⌝ }
+    ensures told { λ r. ⌜ askedTold r ≡ askedTold (askedIn (limitOf (length (now (table .entry)))) (evaluated Spk (now (kernel .entry))) (now (table .entry)) n memory q wanted rot) ⌝ }
 {
     let a = state(kernel, table, n, memory, q);
     spk::turned(a, wanted, rot)
@@ -231,6 +237,7 @@ pub fn name<'a, 'b>(kernel: &'a [u8], table: &'b [Segment], n: usize, number: us
 // A segment evaluated alone by its number, covering or not.
 pub fn alone(kernel: &[u8], table: &[Segment], n: usize, number: usize, et: f64) -> Answer
     ensures { λ r. ⌜ r ≡ aloneAnswer (limitOf (length (now (table .entry)))) (evaluated Spk (now (kernel .entry))) (now (table .entry)) n number et ⌝ }
+    ensures told { λ r. ⌜ answerTold r ≡ answerTold (aloneAnswer (limitOf (length (now (table .entry)))) (evaluated Spk (now (kernel .entry))) (now (table .entry)) n number et) ⌝ }
 {
     let places = table_len(table);
     let m = table::counted(places, n);
@@ -313,6 +320,7 @@ pub fn carry_out(table: &mut [Segment], kernel: &[u8], family: Family, p: Plan)
 // The opening of a kernel into a lent table: an accepted one fills the first places, with their marks, and leaves the others; a refused one leaves all.
 pub fn open(table: &mut [Segment], kernel: &[u8], family: Family) -> Found
     ensures { λ r. ⌜ (r ≡ found family (limitOf (length (now (table .entry)))) (now (kernel .entry))) × (now (table .exit) ≡ tableAfter family (limitOf (length (now (table .entry)))) (now (kernel .entry)) (now (table .entry))) ⌝ }
+    ensures told { λ r. ⌜ foundTold r ≡ foundTold (found family (limitOf (length (now (table .entry)))) (now (kernel .entry))) ⌝ }
 {
     let places = table.len();
     let p = opening::plan_of(kernel, family, places);
@@ -342,6 +350,7 @@ fn last_body(table: &[Segment], n: usize, q: pck::Question) -> Choice
 // The orientation of a body frame, over the first n of the lent segments.
 pub fn orient(kernel: &[u8], table: &[Segment], n: usize, q: pck::Question) -> pck::Oriented
     ensures { λ r. ⌜ r ≡ oriented (limitOf (length (now (table .entry)))) (now (kernel .entry)) (now (table .entry)) n q ⌝ }
+    ensures told { λ r. ⌜ orientedTold r ≡ orientedTold (oriented (limitOf (length (now (table .entry)))) (now (kernel .entry)) (now (table .entry)) n q) ⌝ }
 {
     let places = table_len(table);
     if pck::is_early(places, n, q) {
@@ -354,4 +363,21 @@ pub fn orient(kernel: &[u8], table: &[Segment], n: usize, q: pck::Question) -> p
         return pck::answered_by(kernel, i, s, q);
     }
     pck::uncovered(q)
+}
+
+// A segment of a PCK evaluated alone by its number, covering or not.
+pub fn orient_alone(
+    kernel: &[u8],
+    table: &[Segment],
+    n: usize,
+    number: usize,
+    et: f64,
+) -> pck::Oriented
+    ensures { λ r. ⌜ r ≡ aloneOriented (limitOf (length (now (table .entry)))) (now (kernel .entry)) (now (table .entry)) n number et ⌝ }
+    ensures told { λ r. ⌜ orientedTold r ≡ orientedTold (aloneOriented (limitOf (length (now (table .entry)))) (now (kernel .entry)) (now (table .entry)) n number et) ⌝ }
+{
+    let places = table_len(table);
+    let m = table::counted(places, n);
+    let s = segment_or(table, m, number);
+    pck::alone_by(kernel, places, n, number, et, s)
 }

@@ -13,6 +13,7 @@ use mir.Syntax.{w32}
 use mir.Val.{SFits, toZ, ofZ}
 use mir.ValLaws.{toZ-ofZ}
 use borrow.Author.Tests.{lt-ltb, le-ltb, ltb-true, ltb-false}
+use Rattle.promised.proofs.Alike.{both}
 use Rattle.io.specs.Digits.{glyph, digits, Fewest}
 use Rattle.lines.specs.Text.{decimalIn, decimalText, fieldText}
 use Rattle.lines.specs.Written.{Written}
@@ -44,6 +45,14 @@ two-texts {before} {at} {text} after after' next next' a b = (
   where
     same : next ≡ next'
     same = a .ends ∙ sym (b .ends)
+
+-- .. and so are the results and what is lent mutably of two calls, `more` being what is lent beside the buffer
+pub two-buffers : {before : List ℕ} {at : ℕ} {text : List ℕ} {after after' : List ℕ} {next next' : ℕ} {W : Type 0} (more : W)
+    → Written before at text after next → Written before at text after' next' → (next ≡ next') × (_≡_ {A = List ℕ × W} (after, more) (after', more))
+two-buffers {after} {after'} {next} {next'} more a b = (same .1, both (same .0) refl)
+  where
+    same : (after ≡ after') × (next ≡ next')
+    same = two-texts after after' next next' a b
 
 -- a field of a struct, read back from its bits
 pub told : {b a : List ℕ} {at r : ℕ} (z : ℤ) → SFits w32 z → Written b at (fieldText (toZ w32 (ofZ w32 z))) a r → Written b at (fieldText z) a r

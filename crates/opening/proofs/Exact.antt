@@ -1,5 +1,5 @@
 -- Exactly when an opening gives refusals 1 to 9, and what an accepted one says of the table. Assumes nothing.
-use Prim.Native.Nat.{ℕ, _<_}
+use Prim.Native.Nat.{ℕ, zero, suc, _≤_, _<_}
 use mathlib.Core.Path.{_≡_, refl, sym, ap, _∙_}
 use mathlib.Core.Logic.{⊎-elim}
 use mathlib.Core.List.{List, [], _∷_, map}
@@ -8,7 +8,7 @@ use lib.ListN.{length}
 use Rattle.refusal.specs.declared.Refusal.{Refusal}
 use Rattle.refusal.specs.Numbers.{numberOf}
 use Rattle.refusal.specs.Order.{Case, First, None, given}
-use Rattle.refusal.proofs.Exactly.{given-where, given-only, answered, first-two}
+use Rattle.refusal.proofs.Exactly.{given-where, given-only, given-some, answered, first-two}
 use Rattle.daf.specs.declared.Family.{Family}
 use Rattle.table.specs.declared.Table.{Table}
 use Rattle.table.specs.Places.{tableLimit}
@@ -21,10 +21,26 @@ use Rattle.opening.proofs.Planned.{none-answer}
 use Rattle.opening.specs.declared.Outcome.the-variants.{Accepted, Refused}
 use Rattle.opening.specs.declared.Opened.{Opened}
 
-one-refusal : (r s : Refusal) → refusedOpening r ≡ refusedOpening s → r ≡ s
+-- case i of an opening has number i + 1
+case-number : (f : Family) (limit : ℕ) (k : List ℕ) (i : ℕ) → i < 9 → numberOf (given (openCases f limit k) i) ≡ suc i
+case-number f limit k zero l = refl
+case-number f limit k (suc zero) l = refl
+case-number f limit k (suc (suc zero)) l = refl
+case-number f limit k (suc (suc (suc zero))) l = refl
+case-number f limit k (suc (suc (suc (suc zero)))) l = refl
+case-number f limit k (suc (suc (suc (suc (suc zero))))) l = refl
+case-number f limit k (suc (suc (suc (suc (suc (suc zero)))))) l = refl
+case-number f limit k (suc (suc (suc (suc (suc (suc (suc zero))))))) l = refl
+case-number f limit k (suc (suc (suc (suc (suc (suc (suc (suc zero)))))))) l = refl
+case-number f limit k (suc (suc (suc (suc (suc (suc (suc (suc (suc i))))))))) l = absurd (let x = l in omega arith)
+
+from-1-to-9 : (f : Family) (limit : ℕ) (k : List ℕ) (r : Refusal) (i : ℕ) → i < 9 → r ≡ given (openCases f limit k) i → (1 ≤ numberOf r) × (numberOf r ≤ 9)
+from-1-to-9 f limit k r i l e = let n = ap numberOf e ∙ case-number f limit k i l in (omega arith, omega arith)
+
+pub one-refusal : (r s : Refusal) → refusedOpening r ≡ refusedOpening s → r ≡ s
 one-refusal r s e = let o : Refused r ≡ Refused s = ap (λ (x : Opened). x .outcome) e in cc
 
-no-refusal : (t : Table) (r : Refusal) → acceptedOpening t ≡ refusedOpening r → ⊥
+pub no-refusal : (t : Table) (r : Refusal) → acceptedOpening t ≡ refusedOpening r → ⊥
 no-refusal t r e =
     let o : Accepted ≡ Refused r = ap (λ (x : Opened). x .outcome) e in
     let z : _≡_ {A = ℕ} 0 1 = cc in omega arith
@@ -43,6 +59,13 @@ module _ (f : Family) (k : List ℕ) where
   pub refused-only : (i : ℕ) → i < 9 → opened f k ≡ refusedOpening (given (openCases f tableLimit k) i) → First (openCases f tableLimit k) i
   unfolding opened
   refused-only i l e = given-only refusedOpening (acceptedOpening tableRead) one-refusal (no-refusal tableRead) (openCases f tableLimit k) i tt l e
+
+  -- .. and nothing else: no number but 1 to 9 is given
+  pub opened-numbers : (r : Refusal) → opened f k ≡ refusedOpening r → (1 ≤ numberOf r) × (numberOf r ≤ 9)
+  unfolding opened
+  opened-numbers r e =
+      let g = given-some refusedOpening (acceptedOpening tableRead) one-refusal (no-refusal tableRead) (openCases f tableLimit k) r e in
+      from-1-to-9 f tableLimit k r (g .0) (g .1) (g .3)
 
   -- the cases have the paper's numbers, in the paper's order
   pub numbered : map (λ (c : Case). numberOf (c .gives)) (openCases f tableLimit k) ≡ 1 ∷ 2 ∷ 3 ∷ 4 ∷ 5 ∷ 6 ∷ 7 ∷ 8 ∷ 9 ∷ []
@@ -70,6 +93,14 @@ module _ (f : Family) (limit : ℕ) (k : List ℕ) where
   pub found-only : (i : ℕ) → i < 9 → lent.found f limit k ≡ found.Refused (given (openCases f limit k) i) → First (openCases f limit k) i
   unfolding lent.found
   found-only i l e = given-only found.Refused (found.Accepted (length (placesOf k))) one-found (no-found (length (placesOf k))) (openCases f limit k) i tt l e
+
+  pub found-some : (r : Refusal) → lent.found f limit k ≡ found.Refused r → (i : ℕ) × (i < 9) × First (openCases f limit k) i × (r ≡ given (openCases f limit k) i)
+  unfolding lent.found
+  found-some r e = given-some found.Refused (found.Accepted (length (placesOf k))) one-found (no-found (length (placesOf k))) (openCases f limit k) r e
+
+  -- no number but 1 to 9 is given
+  pub found-numbers : (r : Refusal) → lent.found f limit k ≡ found.Refused r → (1 ≤ numberOf r) × (numberOf r ≤ 9)
+  found-numbers r e = let g = found-some r e in from-1-to-9 f limit k r (g .0) (g .1) (g .3)
 
   pub found-numbered : map (λ (c : Case). numberOf (c .gives)) (openCases f limit k) ≡ 1 ∷ 2 ∷ 3 ∷ 4 ∷ 5 ∷ 6 ∷ 7 ∷ 8 ∷ 9 ∷ []
   found-numbered = refl

@@ -2,3 +2,5 @@
 pub mod Exact
 pub mod Planned
 pub mod Planning
+pub mod Told
+pub mod TwoAnswers

@@ -2,3 +2,4 @@
 pub mod Opening
 pub mod Lent
 pub mod Planning
+pub mod Paper

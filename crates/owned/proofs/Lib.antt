@@ -2,3 +2,4 @@
 pub mod Calls
 pub mod Owning
 pub mod Rows
+pub mod TwoAnswers

@@ -1,16 +1,21 @@
 // The table by value, 256 places, for small hosts. Each function owns its array and lends it to `lent`: there is no second body of code.
 ghost use mathlib.Core.Path.{_≡_};
+ghost use mathlib.Core.List.{[]};
 ghost use Rattle.daf.specs.declared.Family.the-variants.{Spk, Pck};
 ghost use Rattle.segment.specs.Evaluating.{evaluated};
 ghost use Rattle.table.specs.Naming.{nameAt};
 ghost use Rattle.table.specs.Places.{tableLimit, emptyPlaces};
 ghost use Rattle.opening.specs.Opening.{opened};
 ghost use Rattle.opening.specs.Planning.{Fits, carriedOut};
+ghost use Rattle.opening.specs.Paper.{openedTold};
 ghost use Rattle.spk.specs.Asking.{asked};
 ghost use Rattle.spk.specs.Turning.{askedIn};
 ghost use Rattle.spk.specs.Alone.{aloneAnswer};
+ghost use Rattle.spk.specs.Paper.{memoryTold, answerTold, askedTold};
+ghost use Rattle.pck.specs.Alone.{aloneOriented};
 ghost use Rattle.pck.specs.Orienting.{oriented};
-ghost use Rattle.owned.specs.Owned.{openedBy};
+ghost use Rattle.pck.specs.Paper.{orientedTold};
+ghost use Rattle.owned.specs.Owned.{openedBy, openedSpk};
 use daf::Family;
 use opening::Opened;
 use opening::Outcome;
@@ -22,6 +27,12 @@ use spk::Memory;
 use spk::Question;
 use spk::Wanted;
 use table::Table;
+
+// An SPK opened: what the opening comes to, and the memory that the first question takes.
+pub struct OpenedSpk {
+    pub opened: Opened,
+    pub memory: Memory,
+}
 
 // ---- a table taken apart and put together
 
@@ -75,14 +86,28 @@ pub fn open_by(kernel: &[u8], family: Family, p: Plan) -> Opened
 // The opening of a kernel: refusals 1 to 9 in their order, or its table.
 pub fn open(kernel: &[u8], family: Family) -> Opened
     ensures { λ r. ⌜ r ≡ opened family (now (kernel .entry)) ⌝ }
+    ensures told { λ r. ⌜ openedTold r ≡ openedTold (opened family (now (kernel .entry))) ⌝ }
 {
     let p = opening::plan_of(kernel, family, Table::PLACES);
     open_by(kernel, family, p)
 }
 
+// The opening of an SPK: it remembers nothing.
+pub fn open_spk(kernel: &[u8]) -> OpenedSpk
+    ensures { λ r. ⌜ r ≡ openedSpk (now (kernel .entry)) ⌝ }
+    ensures told { λ r. ⌜ (openedTold (r .opened) ≡ openedTold (opened Spk (now (kernel .entry)))) × (memoryTold (r .memory) ≡ []) ⌝ }
+{
+    let opened = open(kernel, Family::Spk);
+    OpenedSpk {
+        opened: opened,
+        memory: Memory::Blank,
+    }
+}
+
 // A question with a memory.
 pub fn state(kernel: &[u8], table: Table, memory: Memory, q: Question) -> Asked
     ensures { λ r. ⌜ r ≡ asked tableLimit (evaluated Spk (now (kernel .entry))) (table .segments) (table .count) memory q ⌝ }
+    ensures told { λ r. ⌜ askedTold r ≡ askedTold (asked tableLimit (evaluated Spk (now (kernel .entry))) (table .segments) (table .count) memory q) ⌝ }
 {
     let t = segments_of(table);
     let n = count_of(table);
@@ -99,6 +124,7 @@ pub fn state_in(
     rot: [[f64; 3]; 3],
 ) -> Asked
     ensures { λ r. ⌜ r ≡ askedIn tableLimit (evaluated Spk (now (kernel .entry))) (table .segments) (table .count) memory q wanted rot ⌝ }
+    ensures told { λ r. ⌜ askedTold r ≡ askedTold (askedIn tableLimit (evaluated Spk (now (kernel .entry))) (table .segments) (table .count) memory q wanted rot) ⌝ }
 {
     let t = segments_of(table);
     let n = count_of(table);
@@ -108,6 +134,7 @@ pub fn state_in(
 // A segment evaluated alone by its number, covering or not.
 pub fn alone(kernel: &[u8], table: Table, number: usize, et: f64) -> Answer
     ensures { λ r. ⌜ r ≡ aloneAnswer tableLimit (evaluated Spk (now (kernel .entry))) (table .segments) (table .count) number et ⌝ }
+    ensures told { λ r. ⌜ answerTold r ≡ answerTold (aloneAnswer tableLimit (evaluated Spk (now (kernel .entry))) (table .segments) (table .count) number et) ⌝ }
 {
     let t = segments_of(table);
     let n = count_of(table);
@@ -117,10 +144,21 @@ pub fn alone(kernel: &[u8], table: Table, number: usize, et: f64) -> Answer
 // The orientation of a body frame.
 pub fn orient(kernel: &[u8], table: Table, q: pck::Question) -> pck::Oriented
     ensures { λ r. ⌜ r ≡ oriented tableLimit (now (kernel .entry)) (table .segments) (table .count) q ⌝ }
+    ensures told { λ r. ⌜ orientedTold r ≡ orientedTold (oriented tableLimit (now (kernel .entry)) (table .segments) (table .count) q) ⌝ }
 {
     let t = segments_of(table);
     let n = count_of(table);
     lent::orient(kernel, &t, n, q)
+}
+
+// A segment of a PCK evaluated alone by its number, covering or not.
+pub fn orient_alone(kernel: &[u8], table: Table, number: usize, et: f64) -> pck::Oriented
+    ensures { λ r. ⌜ r ≡ aloneOriented tableLimit (now (kernel .entry)) (table .segments) (table .count) number et ⌝ }
+    ensures told { λ r. ⌜ orientedTold r ≡ orientedTold (aloneOriented tableLimit (now (kernel .entry)) (table .segments) (table .count) number et) ⌝ }
+{
+    let t = segments_of(table);
+    let n = count_of(table);
+    lent::orient_alone(kernel, &t, n, number, et)
 }
 
 // The name of a segment by its number: that part of the lent kernel itself, empty where there is no such segment.

@@ -16,6 +16,7 @@ use Rattle.refusal.specs.Numbers.{numberOf}
 use Rattle.refusal.specs.Order.{First, given}
 use Rattle.frame.specs.declared.State.{State}
 use Rattle.frame.specs.State.{finiteState}
+use Rattle.frame.proofs.Finite.{infinite-where, infinite-only}
 use Rattle.daf.specs.declared.Family.the-variants.{Pck}
 use Rattle.segment.specs.declared.Segment.{Segment}
 use Rattle.segment.specs.declared.Evaluated.{Evaluated}
@@ -35,19 +36,19 @@ use Rattle.pck.proofs.Ways.{settled-refused, settled-state, oriented-un
 use Rattle.pck.proofs.Chosen.{chosen-last, last-chosen, none-chosen, chosen-none}
 
 -- two constructors are never equal
-clash : {X : Type 0} → _≡_ {A = ℕ} 0 1 → X
+pub clash : {X : Type 0} → _≡_ {A = ℕ} 0 1 → X
 clash z = absurd (let y = z in omega arith)
 
 -- a refused answer's outcome
-outcome-refused : (r : Refusal) → refusedOriented r .outcome ≡ Refused r
+pub outcome-refused : (r : Refusal) → refusedOriented r .outcome ≡ Refused r
 unfolding refusedOriented
 outcome-refused r = refl
 
-one-refusal : (r s : Refusal) → refusedOriented r .outcome ≡ Refused s → r ≡ s
+pub one-refusal : (r s : Refusal) → refusedOriented r .outcome ≡ Refused s → r ≡ s
 one-refusal r s h = let e : _≡_ {A = Outcome} (Refused r) (Refused s) = sym (outcome-refused r) ∙ h in cc
 
 -- why what a segment was evaluated to is refused: by itself, or by 15
-settled-why : (s : Segment) (e : Evaluated) (r : Refusal) → settled s e .outcome ≡ Refused r
+pub settled-why : (s : Segment) (e : Evaluated) (r : Refusal) → settled s e .outcome ≡ Refused r
     → (e ≡ evaluation.Refused r) ⊎ ((x : State) × (e ≡ evaluation.State x) × (finiteState x ≡ false) × (NotFinite ≡ r))
 unfolding settled
 settled-why s (evaluation.Refused x) r h = inl (ap evaluation.Refused (one-refusal x r h))
@@ -59,18 +60,18 @@ settled-why s (evaluation.State x) r h = go (finiteState x) refl h
     go false f e = inr (x, refl, f, one-refusal NotFinite r e)
 
 -- a segment's own refusals are 12, 13 and 14
-own-number : (k : List ℕ) (segs : List Segment) (q : Question) (i : ℕ) (r : Refusal) → evaluated Pck k (seg segs i) i (q .et) ≡ evaluation.Refused r
+pub own-number : (k : List ℕ) (s : Segment) (i : ℕ) (et : Float) (r : Refusal) → evaluated Pck k s i et ≡ evaluation.Refused r
     → (12 ≤ numberOf r) × (numberOf r ≤ 14)
-own-number k segs q i r e = go (refused-by Pck k (seg segs i) i (q .et) r e)
+own-number k s i et r e = go (refused-by Pck k s i et r e)
   where
     within : (m : ℕ) → (12 ≤ m) × (m ≤ 14) → numberOf r ≡ m → (12 ≤ numberOf r) × (numberOf r ≤ 14)
     within m b x = rw x b
 
-    go : (j : ℕ) × First (cases Pck k (seg segs i) i (q .et)) j × (r ≡ given (cases Pck k (seg segs i) i (q .et)) j) → (12 ≤ numberOf r) × (numberOf r ≤ 14)
+    go : (j : ℕ) × First (cases Pck k s i et) j × (r ≡ given (cases Pck k s i et) j) → (12 ≤ numberOf r) × (numberOf r ≤ 14)
     go (zero, h, x) = within 12 (omega arith) (ap numberOf x)
     go (suc zero, h, x) = within 14 (omega arith) (ap numberOf x)
     go (suc (suc zero), h, x) = within 13 (omega arith) (ap numberOf x)
-    go (suc (suc (suc zero)), h, x) = absurd (never-16 Pck k (seg segs i) i (q .et) i (e ∙ ap evaluation.Refused x))
+    go (suc (suc (suc zero)), h, x) = absurd (never-16 Pck k s i et i (e ∙ ap evaluation.Refused x))
     go (suc (suc (suc (suc j))), h, x) = absurd (h .1 .1 .1 .1)
 
 module _ (limit : ℕ) (k : List ℕ) (segs : List Segment) (n : ℕ) (q : Question) where
@@ -95,7 +96,7 @@ module _ (limit : ℕ) (k : List ℕ) (segs : List Segment) (n : ℕ) (q : Quest
       oriented-by limit k segs n q Nothing (none-chosen (hits q) segs n (w .none)) (w .past .fits) (w .past .number)
       ∙ ap refusedOriented (ap NoCoverage (w .body) ∙ e)
   refused-whole r (own w) = answer-choice (w .number) (w .answers) ∙ settled-refused _ _ r (w .given)
-  refused-whole r (infinite w e) = answer-choice (w .number) (w .answers) ∙ settled-state _ _ (w .angles) false (w .given) (w .not-finite) ∙ ap refusedOriented e
+  refused-whole r (infinite w e) = answer-choice (w .number) (w .answers) ∙ settled-state _ _ (w .angles) false (w .given) (infinite-where (w .angles) (w .infinite)) ∙ ap refusedOriented e
 
   given-why : (r : Refusal) → Why r → RefusedBy limit k segs n q r
   given-why r w = ap (λ (a : Oriented). a .outcome) (refused-whole r w) ∙ outcome-refused r
@@ -107,7 +108,7 @@ module _ (limit : ℕ) (k : List ℕ) (segs : List Segment) (n : ℕ) (q : Quest
       let l = chosen-last (hits q) segs n i e in
       let a : Answers limit segs n q i = record { past = p; below = l .below; covers = l .passes; last = l .none } in
       ⊎-elim (λ x. own (record { number = i; answers = a; given = x }))
-      (λ x. infinite (record { number = i; answers = a; angles = x .0; given = x .1; not-finite = x .2 }) (x .3))
+      (λ x. infinite (record { number = i; answers = a; angles = x .0; given = x .1; infinite = infinite-only (x .0) (x .2) }) (x .3))
       (settled-why (seg segs i) (valueOf limit k segs n q i) r h)
 
   why : (r : Refusal) → RefusedBy limit k segs n q r → Why r
@@ -130,7 +131,7 @@ module _ (limit : ℕ) (k : List ℕ) (segs : List Segment) (n : ℕ) (q : Quest
 
   -- a refusal that no segment is evaluated to
   other : {X : Type 0} (r : Refusal) → ((12 ≤ numberOf r) × (numberOf r ≤ 14) → ⊥) → WhenOwn limit k segs n q r → X
-  other r f w = absurd (f (own-number k segs q (w .number) r (w .given)))
+  other r f w = absurd (f (own-number k (seg segs (w .number)) (w .number) (q .et) r (w .given)))
 
   -- **exactly-when**, 10
   pub exactly-10 : RefusedBy limit k segs n q EpochNan ↔ When10 limit k segs n q
@@ -205,5 +206,5 @@ module _ (limit : ℕ) (k : List ℕ) (segs : List Segment) (n : ℕ) (q : Quest
       only (over l x) = within 14 (omega arith) (ap numberOf x)
       only (nan w x) = within 10 (omega arith) (ap numberOf x)
       only (none b w x) = within 11 (omega arith) (ap numberOf x)
-      only (own w) = let b = own-number k segs q (w .number) r (w .given) in omega arith
+      only (own w) = let b = own-number k (seg segs (w .number)) (w .number) (q .et) r (w .given) in omega arith
       only (infinite w x) = within 15 (omega arith) (ap numberOf x)

@@ -1,4 +1,6 @@
 -- The definitions that the contracts of `pck` cite, and what is proved beyond them.
+pub mod Alone
 pub mod Finding
 pub mod Orienting
 pub mod When
+pub mod Paper

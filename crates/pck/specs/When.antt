@@ -9,7 +9,7 @@ use lib.IntN.{ℤ}
 use Rattle.refusal.specs.declared.Refusal.{Refusal}
 use Rattle.refusal.specs.declared.Refusal.the-variants.{TableUnfit}
 use Rattle.frame.specs.declared.State.{State}
-use Rattle.frame.specs.State.{finiteState}
+use Rattle.frame.specs.Finite.{Infinite}
 use Rattle.daf.specs.declared.Family.the-variants.{Pck}
 use Rattle.segment.specs.declared.Segment.{Segment}
 use Rattle.segment.specs.declared.Evaluated.{Evaluated}
@@ -68,4 +68,4 @@ module _ (limit : ℕ) (k : List ℕ) (segs : List Segment) (n : ℕ) (q : Quest
     pub answers : Answers limit segs n q number
     pub angles : State
     pub given : valueOf number ≡ evaluation.State angles
-    pub not-finite : finiteState angles ≡ false
+    pub infinite : Infinite angles

@@ -7,6 +7,7 @@ ghost use Rattle.table.specs.Places.{lentLimit, limitOf};
 ghost use Rattle.table.specs.Choosing.{orElse};
 ghost use Rattle.pck.specs.Orienting.{orientedOf, refusedOriented, settled, isBody, hits, noCoverage};
 ghost use Rattle.pck.specs.Finding.{bodyAt, isEarly, earlyOriented};
+ghost use Rattle.pck.specs.Alone.{aloneWith};
 use daf::Family;
 use frame::State;
 use refusal::Refusal;
@@ -154,4 +155,31 @@ pub fn uncovered(q: Question) -> Oriented
     ensures { λ r. ⌜ r ≡ refusedOriented (noCoverage q) ⌝ }
 {
     Oriented::refused(q.no_coverage())
+}
+
+// Segment `number`, which is s, by the tests before any evaluation, else evaluated.
+pub fn alone_by(
+    kernel: &[u8],
+    places: usize,
+    n: usize,
+    number: usize,
+    et: f64,
+    s: Segment,
+) -> Oriented
+    ensures { λ r. ⌜ r ≡ aloneWith (limitOf places) (now (kernel .entry)) n number et s ⌝ }
+{
+    if Table::LENT < n {
+        return Oriented::refused(Refusal::TableUnfit);
+    }
+    if places < n {
+        return Oriented::refused(Refusal::TableUnfit);
+    }
+    if et != et {
+        return Oriented::refused(Refusal::EpochNan);
+    }
+    if n <= number {
+        return Oriented::refused(Refusal::NoSegment);
+    }
+    let e = segment::evaluate(kernel, Family::Pck, s, number as u32, et);
+    Oriented::settled(s, e)
 }

@@ -102,6 +102,16 @@ module _ {A : Type 0} (refused : Refusal → A) (answer : A) (one : (r s : Refus
       (ap numberOf (sym (one (c .gives) (given cs i) (sym (turn refused answer c cs true q) ∙ e))))))
       (λ q. (q, given-only cs i (and-right (without (numberOf (c .gives)) cs) (apart cs) a) (omega arith) (sym (turn refused answer c cs false q) ∙ e)))
 
+  -- a refusal is that of a case, the first that holds
+  pub given-some : (cs : List Case) (r : Refusal) → firstOf cs refused answer ≡ refused r → (i : ℕ) × (i < length cs) × First cs i × (r ≡ given cs i)
+  given-some [] r e = absurd (other r e)
+  given-some (c ∷ cs) r e =
+      by-test (c .holds) (λ q. (0, omega arith, q, one r (c .gives) (sym e ∙ turn refused answer c cs true q)))
+      (λ q. let rest = given-some cs r (sym (turn refused answer c cs false q) ∙ e) in (suc (rest .0), further (rest .1), (q, rest .2), rest .3))
+    where
+      further : {i : ℕ} → i < length cs → suc i < suc (length cs)
+      further l = omega arith
+
   -- there is the answer only where no case holds
   pub answer-only : (cs : List Case) → firstOf cs refused answer ≡ answer → None cs
   answer-only [] e = tt

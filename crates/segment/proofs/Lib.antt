@@ -6,6 +6,7 @@ pub mod Placed
 pub mod Forms
 pub mod Finding
 pub mod Judging
+pub mod TwoAnswers
 pub mod Valued
 pub mod Same
 pub mod Fit
@@ -14,3 +15,4 @@ pub mod Inside
 pub mod Opened
 pub mod Plain
 pub mod OwnBytes
+pub mod Told

@@ -1,13 +1,14 @@
--- An evaluation depends on nothing in the kernel but its length and the segment's own doubles. Assumes nothing.
+-- An evaluation depends on nothing in the kernel but the segment's own doubles. Assumes nothing.
 use Prim.Native.Nat.{ℕ, _+_, _-_, _*_, _≤_, _<_}
 use mathlib.Core.Path.{_≡_, refl, sym, ap, _∙_}
+use mathlib.Core.Bool.{Bool, false, _||_}
 use mathlib.Core.List.{List}
 use native.Mathlib.Omega.{arith}
 use lib.Dec.{ltb}
-use lib.IntN.{natAbs}
+use lib.IntN.{ℤ, pos, negsuc, natAbs}
+use lib.Signed.{ltZ}
 use lib.Ieee.{Float, eq}
-use lib.ListN.{length}
-use borrow.Author.Tests.{ltb-false}
+use borrow.Author.Tests.{ltb-false, le-ltb}
 use Rattle.bits.specs.F64.{+0}
 use Rattle.bits.specs.Bytes.{doubleAt}
 use Rattle.bits.proofs.Tests.{by-test}
@@ -29,8 +30,10 @@ use Rattle.segment.proofs.Placed.{placed}
 use Rattle.segment.proofs.Fit.{fitting}
 use Rattle.segment.proofs.Inside.{RecordInside, Inside, inside}
 
--- Two kernels agree on the doubles of addresses a to e.
+-- Two kernels hold the doubles of addresses a to e, and the same ones.
 pub record Agrees (k k′ : List ℕ) (a e : ℕ) : Type 0 where
+  pub here : e ≤ wholeDoubles k
+  pub there : e ≤ wholeDoubles k′
   pub same : (j : ℕ) → a ≤ j → j ≤ e → doubleOfAddress k j ≡ doubleOfAddress k′ j
 
 -- ---- the trailer
@@ -46,12 +49,21 @@ module _ (k k′ : List ℕ) (a e : ℕ) (g : Agrees k k′ a e) where
 
 -- ---- whether it fits
 
-module _ (f : Family) (k k′ : List ℕ) (s : Segment) (n : length k ≡ length k′) (g : Agrees k k′ (natAbs (s .start)) (natAbs (s .end))) where
+-- the end of a segment that a kernel holds is not past its doubles
+end-within : (whole : ℕ) (end : ℤ) → natAbs end ≤ whole → ltZ (pos whole) end ≡ false
+end-within w (pos e) h = le-ltb w e h
+end-within w (negsuc e) h = refl
+
+misplaced-own : (w w′ : ℕ) (start end : ℤ) → natAbs end ≤ w → natAbs end ≤ w′ → misplaced w start end ≡ misplaced w′ start end
+misplaced-own w w′ start end h h′ = ap (λ (b : Bool). ltZ start (pos 1) || ltZ end start || b) (end-within w end h ∙ sym (end-within w′ end h′))
+
+module _ (f : Family) (k k′ : List ℕ) (s : Segment) (g : Agrees k k′ (natAbs (s .start)) (natAbs (s .end))) where
   pub unfit-own : unfit f k s ≡ unfit f k′ s
   unfolding unfit malformed kindOf
   unfit-own =
       let form = formOf f (s .«data_type») in
       let len = lengthOf (natAbs (s .start)) (natAbs (s .end)) in
+      let n = misplaced-own (wholeDoubles k) (wholeDoubles k′) (s .start) (s .end) (g .here) (g .there) in
       by-test (limitNan (s .first) (s .last)) (λ y. rw y)
       (λ m. by-test (handled form)
       (λ y. by-test (misplaced (wholeDoubles k′) (s .start) (s .end)) (λ p. rw (n, m, y, p))
@@ -93,12 +105,12 @@ module _ (k k′ : List ℕ) (a e : ℕ) (from : 1 ≤ a) (g : Agrees k k′ a e
   value-own (Type9 d n) et s h = (refl, type9-own (alike-whole k k′ (byteOf a) n d et (states-own n h)))
   value-own (Type13 d n) et s h = (refl, type13-own (alike-whole k k′ (byteOf a) n d et (states-own n h)) (s .some))
 
--- **own-bytes**, for one segment: two kernels of one length that agree on the segment's own doubles give the same, refusal or state.
-pub own-bytes : (f : Family) (k k′ : List ℕ) (s : Segment) (i : ℕ) (et : Float) → length k ≡ length k′ → Agrees k k′ (natAbs (s .start)) (natAbs (s .end))
+-- **own-bytes**, for one segment: two kernels that hold the segment's doubles, and the same ones, give the same, refusal or state.
+pub own-bytes : (f : Family) (k k′ : List ℕ) (s : Segment) (i : ℕ) (et : Float) → Agrees k k′ (natAbs (s .start)) (natAbs (s .end))
     → evaluated f k s i et ≡ evaluated f k′ s i et
 unfolding evaluated
-own-bytes f k k′ s i et n g =
-    let u = unfit-own f k k′ s n g in
+own-bytes f k k′ s i et g =
+    let u = unfit-own f k k′ s g in
     by-test (unsupported (s .kind)) (λ y. rw y)
     (λ m. by-test (unfit f k s) (λ y. rw (m, ← u, y))
     (λ e. let fit = fitting f k s m e in

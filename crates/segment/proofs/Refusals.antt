@@ -8,12 +8,11 @@ use native.Mathlib.Omega.{arith}
 use lib.IntN.{natAbs}
 use lib.Ieee.{Float}
 use borrow.Author.Tests.{ne-eqb}
-use Rattle.bits.proofs.Tests.{by-test}
 use Rattle.refusal.specs.declared.Refusal.{Refusal}
 use Rattle.refusal.specs.declared.Refusal.the-variants.{Unsupported as TypeUnsupported, TableUnfit, ZeroRadius, EmptyWindow}
 use Rattle.refusal.specs.Numbers.{numberOf}
-use Rattle.refusal.specs.Order.{Case, firstOf, First, None, given}
-use Rattle.refusal.proofs.Exactly.{given-where, given-only, answer-where, answer-only}
+use Rattle.refusal.specs.Order.{Case, First, None, given}
+use Rattle.refusal.proofs.Exactly.{given-where, given-only, given-some, answer-where, answer-only}
 use Rattle.frame.specs.declared.State.{State}
 use Rattle.daf.specs.declared.Family.{Family}
 use Rattle.daf.specs.declared.Summary.{Summary}
@@ -24,9 +23,7 @@ use Rattle.segment.specs.Evaluating.{unsupported, unfit, zeroRadius, emp
 use Rattle.segment.specs.declared.Kind.{Kind}
 use Rattle.segment.specs.declared.Kind.the-variants.{Unsupported, Type2, Type3, Type9, Type13}
 use Rattle.segment.specs.declared.Segment.{Segment}
-use Rattle.segment.specs.declared.Judged.{Judged}
 use Rattle.segment.specs.declared.Judged.the-variants.{Accepted, Malformed}
-use Rattle.segment.specs.declared.Evaluated.{Evaluated}
 use Rattle.segment.specs.declared.Evaluated.the-variants.{State as Answer, Refused}
 use Rattle.segment.proofs.Fit.{fitting}
 
@@ -50,13 +47,6 @@ one-refusal r s e = cc
 no-refusal : (x : State) (r : Refusal) → Answer x ≡ Refused r → ⊥
 no-refusal x r e = let z : _≡_ {A = ℕ} 0 1 = cc in omega arith
 
--- a refusal is that of some case
-some-case : (x : State) (r : Refusal) (cs : List Case) → firstOf cs Refused (Answer x) ≡ Refused r → (j : ℕ) × First cs j × (r ≡ given cs j)
-some-case x r [] e = absurd (no-refusal x r e)
-some-case x r (c ∷ cs) e =
-    by-test (c .holds) (λ q. (0, q, one-refusal r (c .gives) (sym e ∙ rw q)))
-    (λ q. let rest = some-case x r cs (sym (ap (λ (b : Bool). cond b (Refused (c .gives)) (firstOf cs Refused (Answer x))) q) ∙ e) in (suc (rest .0), (q, rest .1), rest .2))
-
 module _ (f : Family) (k : List ℕ) (s : Segment) (i : ℕ) (et : Float) where
   -- **exactly-when**: case j gives its refusal where it holds and no earlier case does ..
   pub refused-where : (j : ℕ) → First (cases f k s i et) j → evaluated f k s i et ≡ Refused (given (cases f k s i et) j)
@@ -71,7 +61,7 @@ module _ (f : Family) (k : List ℕ) (s : Segment) (i : ℕ) (et : Float) where
   -- .. and no other refusal is ever given.
   pub refused-by : (r : Refusal) → evaluated f k s i et ≡ Refused r → (j : ℕ) × First (cases f k s i et) j × (r ≡ given (cases f k s i et) j)
   unfolding evaluated
-  refused-by r e = some-case _ r (cases f k s i et) e
+  refused-by r e = let g = given-some Refused _ one-refusal (no-refusal _) (cases f k s i et) r e in (g .0, g .2, g .3)
 
   -- the cases have the paper's numbers, in the order of its section on evaluation
   pub numbered : map (λ (c : Case). numberOf (c .gives)) (cases f k s i et) ≡ 12 ∷ 14 ∷ 13 ∷ 16 ∷ []
@@ -118,13 +108,3 @@ never-16 f k s i et j e = go (refused-by f k s i et (EmptyWindow j) e)
     go (suc (suc (suc zero)), h, q) =
         true≢false (sym (h .1 .1 .1) ∙ window-some k (natAbs (s .start)) (s .kind) (fitting f k s (h .0) (h .1 .0) .1))
     go (suc (suc (suc (suc n))), h, q) = h .1 .1 .1 .1
-
--- ---- the contracts leave no choice
-
--- **two-answers**: any two answers that the contract of `judge` permits are equal ..
-pub two-judgements : (f : Family) (k : List ℕ) (s : Summary) (x y : Judged) → x ≡ judged f k s → y ≡ judged f k s → x ≡ y
-two-judgements f k s x y p q = p ∙ sym q
-
--- .. and any two of `evaluate`.
-pub two-answers : (f : Family) (k : List ℕ) (s : Segment) (i : ℕ) (et : Float) (x y : Evaluated) → x ≡ evaluated f k s i et → y ≡ evaluated f k s i et → x ≡ y
-two-answers f k s i et x y p q = p ∙ sym q

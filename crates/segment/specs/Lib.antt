@@ -3,3 +3,4 @@ pub mod Kinds
 pub mod Malformed
 pub mod Evaluating
 pub mod Examples
+pub mod Paper

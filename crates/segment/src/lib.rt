@@ -2,7 +2,7 @@
 // A table may be forged: evaluation repeats the tests, and reads within the segment's own bounds only.
 ghost use mathlib.Core.Path.{_≡_};
 ghost use mathlib.Core.Bool.{true, false};
-ghost use Prim.Native.Nat.{_+_, _*_, _^_, _≤_, _<_};
+ghost use Prim.Native.Nat.{ℕ, _+_, _*_, _^_, _≤_, _<_};
 ghost use lib.Dec.{T};
 ghost use lib.IntN.{natAbs};
 ghost use lib.Signed.{nonNeg};
@@ -13,6 +13,7 @@ ghost use Rattle.daf.specs.Addresses.{byteOf, doubleOfAddress, wholeDoubles};
 ghost use Rattle.segment.specs.Kinds.{formOf, handled, wholeNumber, recordsAt, statesTrailer, statesAt, trailerAt, kindWith, typeIn, trailerIn, sameTrailer, sameKind};
 ghost use Rattle.segment.specs.Malformed.{limitNan, misplaced, trailerSize, coefficients, badSize, badInterval, overruns, badRecords, badLength, badStates, badTrailer, found, segmentWith, judged};
 ghost use Rattle.segment.specs.Evaluating.{unsupported, unfit, recordByte, evaluated, valued, Records, States, Sound, Plain};
+ghost use Rattle.segment.specs.Paper.{evaluatedTold, judgedTold};
 ghost use Rattle.segment.specs.declared.Form.the-variants.{Three};
 use cheby::Cheby;
 use daf::Family;
@@ -455,6 +456,7 @@ fn segment_with(s: Summary, kind: Kind) -> Segment
 // The segment of a summary at the opening, or that it is malformed (9).
 pub fn judge(kernel: &[u8], family: Family, summary: Summary) -> Judged
     ensures { λ r. ⌜ r ≡ judged family (now (kernel .entry)) summary ⌝ }
+    ensures told { λ r. ⌜ ((i : ℕ) → judgedTold i r ≡ judgedTold i (judged family (now (kernel .entry)) summary)) ⌝ }
 {
     let found = find(kernel, family, segment_with(summary, Kind::Unsupported));
     match found {
@@ -766,6 +768,7 @@ fn is_three(family: Family, s: Segment) -> bool
 // segment is copied only where it goes on as a whole.
 pub fn evaluate(kernel: &[u8], family: Family, s: Segment, number: u32, et: f64) -> Evaluated
     ensures { λ r. ⌜ r ≡ evaluated family (now (kernel .entry)) s number et ⌝ }
+    ensures told { λ r. ⌜ evaluatedTold r ≡ evaluatedTold (evaluated family (now (kernel .entry)) s number et) ⌝ }
 {
     let kind = s.kind;
     if s.data_type == 2 {

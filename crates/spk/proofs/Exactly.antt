@@ -1,31 +1,40 @@
--- EXACTLY WHEN a question is refused with 10, 11, 14 or 15, and a segment alone with 10, 14, 15 or 17, for any evaluation that gives only
--- its own refusals (12, 13, 14, 16).
--- Assumes nothing.
+-- EXACTLY WHEN a question is refused, and with which number: for any evaluation that gives only its own refusals (12, 13, 14).
+--     exactly-10, exactly-11, exactly-own, exactly-14, exactly-15    10; 11 for a body; 12 and 13; 14; 15
+--     no-other         no number but 10 to 15 is given
+--     refused-zeros    with a refusal stand six zeros and no segment
+--     never-14         where the count fits and no segment is refused with 14, no question is
+-- A state in a frame is in `ExactlyIn`, a segment alone in `ExactlyAlone`. Assumes nothing.
 use Prim.Native.Nat.{ℕ, _≤_, _<_}
-use mathlib.Core.Path.{_≡_, refl, sym, ap, _∙_}
-use mathlib.Core.Bool.{Bool, true, false, cond, true≢false}
+use mathlib.Core.Path.{_≡_, refl, sym, ap, ap₂, _∙_, subst}
+use mathlib.Core.Bool.{Bool, true, false, cond, _||_, true≢false}
 use mathlib.Core.Logic.{_⊎_, inl, inr, ⊎-elim, _↔_}
 use mathlib.Core.List.{List}
 use native.Mathlib.Omega.{arith}
 use native.Mathlib.Decide.{decLt}
+use lib.Dec.{eqb}
 use lib.Ieee.{Float, isNan}
 use lib.IntN.{ℤ}
+use borrow.Author.Tests.{eqb-true}
 use Rattle.bits.proofs.Tests.{by-test}
 use Rattle.frame.specs.declared.State.{State}
-use Rattle.frame.specs.State.{finiteState}
+use Rattle.frame.specs.State.{negatedState, minusState, finiteState}
 use Rattle.refusal.specs.declared.Refusal.{Refusal}
-use Rattle.refusal.specs.declared.Refusal.the-variants.{EpochNan, NoCoverage, TableUnfit, NotFinite, NoSegment}
+use Rattle.refusal.specs.declared.Refusal.the-variants.{EpochNan, NoCoverage, TableUnfit, NotFinite}
+use Rattle.refusal.specs.Numbers.{numberOf}
 use Rattle.segment.specs.declared.Segment.{Segment}
 use Rattle.segment.specs.declared.Evaluated.{Evaluated}
 use Rattle.segment.specs.declared.Evaluated.the-variants as evaluation
 use Rattle.table.specs.declared.Choice.{Choice}
 use Rattle.table.specs.declared.Choice.the-variants.{At, Nothing}
 use Rattle.table.specs.Segments.{seg}
-use Rattle.table.proofs.Last.{Chosen, last-chosen}
+use Rattle.table.proofs.Last.{chosen-at, last-chosen}
+use Rattle.chain.specs.declared.Leg.{Leg}
 use Rattle.chain.specs.Step.{Evaluation}
-use Rattle.chain.specs.Walk.{toZero}
-use Rattle.chain.specs.When.{isOwn, OwnOnly}
-use Rattle.chain.proofs.Ends.{clash, Eleven, zero-good}
+use Rattle.chain.specs.Walk.{chainLimit, walkFrom, toZero}
+use Rattle.chain.specs.When.{isOwn, OwnOnly, Stuck, Failed}
+use Rattle.chain.proofs.Walks.{zero-walk}
+use Rattle.chain.proofs.Ends.{clash, stuck-where}
+use Rattle.chain.proofs.Failing.{failed-where, zero-why, failed-given}
 use Rattle.spk.specs.declared.Question.{Question}
 use Rattle.spk.specs.declared.Memory.{Memory}
 use Rattle.spk.specs.declared.Way.{Way}
@@ -35,25 +44,22 @@ use Rattle.spk.specs.declared.Asked.{Asked}
 use Rattle.spk.specs.Questions.{isSame, swapped, hits}
 use Rattle.spk.specs.Choosing.{lastReversed, forwardIn}
 use Rattle.spk.specs.Answers.{answerOf, refusedAnswer, sameAnswer, settled, negatedOf, differenceOf}
-use Rattle.spk.specs.Asking.{legFrom, chained, backward, foundBy, answerTo, asked}
+use Rattle.spk.specs.Asking.{Found, legFrom, chained, backward, foundBy, answerTo, asked}
 use Rattle.spk.specs.Turning.{isRefused}
-use Rattle.spk.specs.Alone.{aloneAnswer}
-use Rattle.spk.specs.When.{Open, RefusedBy, found, When10, When11, When14, When15}
-use Rattle.spk.proofs.Forged.{forward-chosen}
-use Rattle.spk.proofs.Settling.{settled-refused, settled-state}
-use Rattle.spk.proofs.Single.{alone-unfit, alone-nan, alone-none, alone-some}
+use Rattle.spk.specs.When.{is12or13, Arrives, OfWalk, InChain, Open, answer, RefusedBy, Chaining, Refuses, forward, reversed, Gives, by-forward, by-reversed, by-chain, When10, When11, WhenOwn, When14, When15}
+use Rattle.spk.specs.When as when
+use Rattle.spk.proofs.Forged.{forged-forward}
+use Rattle.spk.proofs.Settling.{settled-refused, settled-state, negated-refused, negated-state}
 use Rattle.spk.proofs.Order.{asked-same, asked-unfit, asked-nan, asked-choice}
+use Rattle.frame.proofs.Finite.{infinite-where, infinite-only}
 
 -- a refused answer's way
-way-refused : (r : Refusal) → refusedAnswer r .way ≡ ways.Refused r
+pub way-refused : (r : Refusal) → refusedAnswer r .way ≡ ways.Refused r
 unfolding refusedAnswer
 way-refused r = refl
 
-refused-eq : (r s : Refusal) → _≡_ {A = Way} (ways.Refused r) (ways.Refused s) → r ≡ s
-refused-eq r s h = cc
-
-answer-refused : (r s : Refusal) → refusedAnswer r .way ≡ ways.Refused s → r ≡ s
-answer-refused r s h = refused-eq r s (sym (way-refused r) ∙ h)
+pub answer-refused : (r s : Refusal) → refusedAnswer r .way ≡ ways.Refused s → r ≡ s
+answer-refused r s h = let e : _≡_ {A = Way} (ways.Refused r) (ways.Refused s) = sym (way-refused r) ∙ h in cc
 
 -- why an evaluation that was settled is refused: by itself, or by 15
 pub settled-why : (way : Way) (e : Evaluated) (r : Refusal) → isRefused way ≡ false → settled way e .way ≡ ways.Refused r
@@ -71,44 +77,77 @@ same-open : (r : Refusal) → sameAnswer .way ≡ ways.Refused r → ⊥
 unfolding sameAnswer
 same-open r h = clash (cc)
 
--- ---- what a question comes to before 15 is refused by 11 or by an evaluation's own refusal
-state-open : {X : Type 0} (s : State) (r : Refusal) → _≡_ {A = Evaluated} (evaluation.State s) (evaluation.Refused r) → X
+pub state-open : {X : Type 0} (s : State) (r : Refusal) → _≡_ {A = Evaluated} (evaluation.State s) (evaluation.Refused r) → X
 state-open s r h = clash (cc)
 
-evaluation-eq : (r s : Refusal) → _≡_ {A = Evaluated} (evaluation.Refused r) (evaluation.Refused s) → r ≡ s
-evaluation-eq r s h = cc
+refusal-eq : (r s : Refusal) → _≡_ {A = Evaluated} (evaluation.Refused r) (evaluation.Refused s) → r ≡ s
+refusal-eq r s h = cc
 
-negated-why : (e : Evaluated) (r : Refusal) → negatedOf e ≡ evaluation.Refused r → e ≡ evaluation.Refused r
+pub negated-why : (e : Evaluated) (r : Refusal) → negatedOf e ≡ evaluation.Refused r → e ≡ evaluation.Refused r
 unfolding negatedOf
 negated-why (evaluation.State s) r h = state-open _ r h
 negated-why (evaluation.Refused x) r h = h
 
-difference-why : (a b : Evaluated) (r : Refusal) → differenceOf a b ≡ evaluation.Refused r → (a ≡ evaluation.Refused r) ⊎ (b ≡ evaluation.Refused r)
-unfolding differenceOf
-difference-why (evaluation.State x) (evaluation.State y) r h = state-open _ r h
-difference-why (evaluation.State x) (evaluation.Refused y) r h = inr h
-difference-why (evaluation.Refused x) b r h = inl h
+pub state-eq : (a b : State) → _≡_ {A = Evaluated} (evaluation.State a) (evaluation.State b) → a ≡ b
+state-eq a b h = cc
 
-module _ (ev : Evaluation) (segs : List Segment) (n : ℕ) (q : Question) (G : Refusal → Type 0) (own : (i : ℕ) → i < n → (et : Float) (r : Refusal) → ev (seg segs i) i et ≡ evaluation.Refused r → G r) where
-  chained-good : (r : Refusal) → chained ev segs n q ≡ evaluation.Refused r → G r ⊎ Eleven r
-  unfolding chained
-  chained-good r h =
-      ⊎-elim (λ e. zero-good ev segs n G own (legFrom q) r e) (λ e. zero-good ev segs n G own (legFrom (swapped q)) r e)
-      (difference-why (toZero ev segs n (legFrom q)) (toZero ev segs n (legFrom (swapped q))) r h)
+negated-gives : (e : Evaluated) (s : State) → negatedOf e ≡ evaluation.State s → (x : State) × (e ≡ evaluation.State x) × (negatedState x ≡ s)
+unfolding negatedOf
+negated-gives (evaluation.State x) s h = (x, refl, state-eq _ s h)
+negated-gives (evaluation.Refused x) s h = state-open s x (sym h)
 
-  -- a refusal is one of an evaluation, or the chain's
-  found-why : (c : Choice) (r : Refusal) → Chosen (hits q) segs n c → foundBy ev segs n q c .result ≡ evaluation.Refused r
-      → G r ⊎ ((c ≡ Nothing) × (lastReversed segs n q ≡ Nothing) × (chained ev segs n q ≡ evaluation.Refused r))
-  found-why (At i) r b h = inl (own i (b .0) (q .et) r h)
-  found-why Nothing r b h = go (lastReversed segs n q) refl (last-chosen (hits (swapped q)) segs n) h
+-- a number of an evaluation's own
+pub own-within : (k : ℕ) → (eqb k 12 || eqb k 13 || eqb k 14) ≡ true → (12 ≤ k) × (k ≤ 14)
+own-within k h =
+    by-test (eqb k 12) (λ a. let x = eqb-true k 12 a in (omega arith, omega arith))
+    (λ a.
+    by-test (eqb k 13) (λ b. let x = eqb-true k 13 b in (omega arith, omega arith))
+    (λ b.
+    by-test (eqb k 14) (λ c. let x = eqb-true k 14 c in (omega arith, omega arith)) (λ c. absurd (true≢false (sym h ∙ rw (a, b, c))))))
+
+-- ---- the chain is refused exactly where one of its walks is
+module _ (ev : Evaluation) (segs : List Segment) (n : ℕ) (q : Question) where
+  -- what holds of a walk that is refused
+  in-chain : (P : Leg → Type 0) (r : Refusal) → ((leg : Leg) → P leg → walkFrom ev segs n leg chainLimit ≡ evaluation.Refused r) → InChain ev segs n P q
+      → chained ev segs n q ≡ evaluation.Refused r
+  unfolding chained differenceOf
+  in-chain P r f w =
+      ⊎-elim (λ x. ap (λ (e : Evaluated). differenceOf e (toZero ev segs n (legFrom (swapped q)))) (of q x))
+      (λ x. ap₂ differenceOf (x .0 .1) (of (swapped q) (x .1))) w
     where
-      go : (c : Choice) → lastReversed segs n q ≡ c → Chosen (hits (swapped q)) segs n c → backward ev segs n q c .result ≡ evaluation.Refused r
-          → G r ⊎ ((_≡_ {A = Choice} Nothing Nothing) × (lastReversed segs n q ≡ Nothing) × (chained ev segs n q ≡ evaluation.Refused r))
-      go (At i) e l p = inl (own i (l .0) (q .et) r (negated-why _ r p))
-      go Nothing e l p = inr (refl, e, p)
+      of : (p : Question) → OfWalk ev segs n P p → toZero ev segs n (legFrom p) ≡ evaluation.Refused r
+      of p x = zero-walk ev segs n (legFrom p) (x .0) ∙ f (legFrom p) (x .1)
 
-  found-good : (c : Choice) (r : Refusal) → Chosen (hits q) segs n c → foundBy ev segs n q c .result ≡ evaluation.Refused r → G r ⊎ Eleven r
-  found-good c r b h = ⊎-elim (λ o. inl o) (λ w. chained-good r (w .2)) (found-why c r b h)
+  -- why it is refused: by a segment, or stuck
+  abbrev Why-chain : Refusal → Type 0
+  Why-chain r =
+      ((i : ℕ) × InChain ev segs n (λ leg. Failed ev segs n leg chainLimit i r) q)
+      ⊎ ((b : ℤ) × InChain ev segs n (λ leg. Stuck ev segs n leg chainLimit b) q × (NoCoverage b ≡ r))
+
+  chain-why : (r : Refusal) → chained ev segs n q ≡ evaluation.Refused r → Why-chain r
+  unfolding chained differenceOf
+  chain-why r h = go (toZero ev segs n (legFrom q)) (toZero ev segs n (legFrom (swapped q))) refl refl h
+    where
+      go : (a b : Evaluated) → toZero ev segs n (legFrom q) ≡ a → toZero ev segs n (legFrom (swapped q)) ≡ b → differenceOf a b ≡ evaluation.Refused r → Why-chain r
+      go (evaluation.State x) (evaluation.State y) u v e = state-open _ r e
+      go (evaluation.State x) (evaluation.Refused y) u v e =
+          let w = zero-why ev segs n (legFrom (swapped q)) r (v ∙ e) in
+          ⊎-elim (λ f. inl (f .0, inr ((x, u), (w .0, f .1)))) (λ s. inr (s .0, inr ((x, u), (w .0, s .1)), s .2)) (w .1)
+      go (evaluation.Refused x) b u v e =
+          let w = zero-why ev segs n (legFrom q) r (u ∙ e) in
+          ⊎-elim (λ f. inl (f .0, inl (w .0, f .1))) (λ s. inr (s .0, inl (w .0, s .1), s .2)) (w .1)
+
+  -- a state, of both walks
+  chain-gives : (s : State) → chained ev segs n q ≡ evaluation.State s
+      → (a : Arrives ev segs n q) × (b : Arrives ev segs n (swapped q)) × (minusState (a .0) (b .0) ≡ s)
+  unfolding chained differenceOf
+  chain-gives s h = go (toZero ev segs n (legFrom q)) (toZero ev segs n (legFrom (swapped q))) refl refl h
+    where
+      go : (a b : Evaluated) → toZero ev segs n (legFrom q) ≡ a → toZero ev segs n (legFrom (swapped q)) ≡ b → differenceOf a b ≡ evaluation.State s
+          → (x : Arrives ev segs n q) × (y : Arrives ev segs n (swapped q)) × (minusState (x .0) (y .0) ≡ s)
+      go (evaluation.State x) (evaluation.State y) u v e = ((x, u), (y, v), state-eq _ s e)
+      go (evaluation.State x) (evaluation.Refused y) u v e = state-open s y (sym e)
+      go (evaluation.Refused x) b u v e = state-open s x (sym e)
 
 -- a choice's way is no refusal
 way-open : (ev : Evaluation) (segs : List Segment) (n : ℕ) (q : Question) (c : Choice) → isRefused (foundBy ev segs n q c .way) ≡ false
@@ -120,205 +159,215 @@ way-open ev segs n q Nothing = go (lastReversed segs n q)
     go Nothing = refl
 
 module _ (limit : ℕ) (ev : Evaluation) (segs : List Segment) (n : ℕ) (m : Memory) (q : Question) where
-  -- which test a refusal comes from
-  data Why (r : Refusal) : Type 0 where
-    unfit : limit < n → TableUnfit ≡ r → Why r
-    nan : n ≤ limit → isNan (q .et) ≡ true → EpochNan ≡ r → Why r
-    refused : Open limit n q → found limit ev segs n m q .result ≡ evaluation.Refused r → Why r
-    infinite : Open limit n q → (s : State) → found limit ev segs n m q .result ≡ evaluation.State s → finiteState s ≡ false → NotFinite ≡ r → Why r
+  -- ---- what a question comes to before 15
+  abbrev found : Found
+  found = foundBy ev segs n q (forwardIn segs n m q)
+
+  -- why it is refused
+  data Found-why (r : Refusal) : Type 0 where
+    by : (i : ℕ) → Refuses limit ev segs n m q i r → Found-why r
+    stuck : (b : ℤ) → Chaining limit ev segs n m q → InChain ev segs n (λ leg. Stuck ev segs n leg chainLimit b) q → NoCoverage b ≡ r → Found-why r
+
+  found-why : (r : Refusal) → found .result ≡ evaluation.Refused r → Found-why r
+  found-why r h = go (forwardIn segs n m q) refl h
+    where
+      back : (c : Choice) → forwardIn segs n m q ≡ Nothing → lastReversed segs n q ≡ c → backward ev segs n q c .result ≡ evaluation.Refused r → Found-why r
+      back (At i) e f x = by i (reversed e f (negated-why _ r x))
+      back Nothing e f x =
+          let c : Chaining limit ev segs n m q = record { forward = e; reversed = f } in
+          ⊎-elim (λ w. by (w .0) (when.chained c (w .1))) (λ w. stuck (w .0) c (w .1) (w .2)) (chain-why ev segs n q r x)
+
+      go : (c : Choice) → forwardIn segs n m q ≡ c → foundBy ev segs n q c .result ≡ evaluation.Refused r → Found-why r
+      go (At i) e x = by i (forward e x)
+      go Nothing e x = back (lastReversed segs n q) e refl x
+
+  found-chain : (e : Evaluated) → Chaining limit ev segs n m q → chained ev segs n q ≡ e → found .result ≡ e
+  found-chain e c h =
+      ap (λ (x : Choice). foundBy ev segs n q x .result) (c .forward) ∙ ap (λ (x : Choice). backward ev segs n q x .result) (c .reversed) ∙ h
+
+  found-refused : (r : Refusal) → Found-why r → found .result ≡ evaluation.Refused r
+  found-refused r (by i (forward e v)) = ap (λ (x : Choice). foundBy ev segs n q x .result) e ∙ v
+  found-refused r (by i (reversed e f v)) =
+      ap (λ (x : Choice). foundBy ev segs n q x .result) e ∙ ap (λ (x : Choice). backward ev segs n q x .result) f ∙ negated-refused _ r v
+  found-refused r (by i (when.chained c w)) =
+      found-chain (evaluation.Refused r) c (in-chain ev segs n q (λ leg. Failed ev segs n leg chainLimit i r) r (λ leg. failed-where ev segs n leg chainLimit i r) w)
+  found-refused r (stuck b c w e) =
+      found-chain (evaluation.Refused r) c
+      (in-chain ev segs n q (λ leg. Stuck ev segs n leg chainLimit b) r (λ leg x. stuck-where ev segs n leg chainLimit b x ∙ ap evaluation.Refused e) w)
+
+  -- a state, and by which way
+  found-gives : (s : State) → found .result ≡ evaluation.State s → Gives limit ev segs n m q s
+  found-gives s h = go (forwardIn segs n m q) refl h
+    where
+      back : (c : Choice) → forwardIn segs n m q ≡ Nothing → lastReversed segs n q ≡ c → backward ev segs n q c .result ≡ evaluation.State s → Gives limit ev segs n m q s
+      back (At i) e f x = let w = negated-gives _ s x in by-reversed i (w .0) e f (w .1) (w .2)
+      back Nothing e f x = let w = chain-gives ev segs n q s x in by-chain (record { forward = e; reversed = f }) (w .0) (w .1) (w .2)
+
+      go : (c : Choice) → forwardIn segs n m q ≡ c → foundBy ev segs n q c .result ≡ evaluation.State s → Gives limit ev segs n m q s
+      go (At i) e x = by-forward i e x
+      go Nothing e x = back (lastReversed segs n q) e refl x
+
+  gives-found : (s : State) → Gives limit ev segs n m q s → found .result ≡ evaluation.State s
+  unfolding chained differenceOf
+  gives-found s (by-forward i e v) = ap (λ (x : Choice). foundBy ev segs n q x .result) e ∙ v
+  gives-found s (by-reversed i x e f v z) =
+      ap (λ (y : Choice). foundBy ev segs n q y .result) e
+      ∙ ap (λ (y : Choice). backward ev segs n q y .result) f
+      ∙ negated-state _ x v
+      ∙ ap evaluation.State z
+  gives-found s (by-chain c a b z) = found-chain (evaluation.State s) c (ap₂ differenceOf (a .1) (b .1) ∙ ap evaluation.State z)
+
+  -- the segment that refuses is of the table, and is evaluated so
+  pub refuses-own : (i : ℕ) (r : Refusal) → Refuses limit ev segs n m q i r → (i < n) × (ev (seg segs i) i (q .et) ≡ evaluation.Refused r)
+  refuses-own i r (forward e v) = (forged-forward segs n m q i e .0, v)
+  refuses-own i r (reversed e f v) = (chosen-at (hits (swapped q)) segs n _ i f (last-chosen (hits (swapped q)) segs n) .0, v)
+  refuses-own i r (when.chained c w) =
+      ⊎-elim (λ x. failed-given ev segs n (legFrom q) chainLimit i r (x .1)) (λ x. failed-given ev segs n (legFrom (swapped q)) chainLimit i r (x .1 .1)) w
+
+  -- ---- which test a refusal comes from
+  pub data Why (r : Refusal) : Type 0 where
+    over : isSame q ≡ false → limit < n → TableUnfit ≡ r → Why r
+    nan : When10 limit ev segs n m q → EpochNan ≡ r → Why r
+    none : (b : ℤ) → When11 limit ev segs n m q b → NoCoverage b ≡ r → Why r
+    own : WhenOwn limit ev segs n m q r → Why r
+    infinite : When15 limit ev segs n m q → NotFinite ≡ r → Why r
 
   choice : Choice
   choice = forwardIn segs n m q
 
-  why : (r : Refusal) → RefusedBy limit ev segs n m q r → (isSame q ≡ false) × Why r
-  unfolding choice
-  why r h =
-      by-test (isSame q)
-      (λ e. absurd (same-open r (ap (λ (a : Asked). a .answer .way) (sym (asked-same limit ev segs n m q choice e)) ∙ h)))
-      (λ e. (
-        e,
-        elim (decLt limit n) [
-          | yes l ↦ unfit l (answer-refused TableUnfit r (ap (λ (a : Asked). a .answer .way) (sym (asked-unfit limit ev segs n m q choice e l)) ∙ h))
-          | no g ↦
-              let le : n ≤ limit = omega arith in
-              by-test (isNan (q .et))
-              (λ d. nan le d (answer-refused EpochNan r (ap (λ (a : Asked). a .answer .way) (sym (asked-nan limit ev segs n m q choice e le d)) ∙ h)))
-              (λ d.
-              let past : Open limit n q = record { other = e; fits = le; number = d } in
-              ⊎-elim (λ p. refused past p) (λ p. infinite past (p .0) (p .1) (p .2) (p .3))
-              (settled-why _ _ r (way-open ev segs n q choice)
-              (ap (λ (a : Asked). a .answer .way) (sym (asked-choice limit ev segs n m q choice e le d)) ∙ h)))
-        ],
-      ))
-
   -- what was settled past the first three tests
-  past-way : Open limit n q → asked limit ev segs n m q .answer ≡ answerTo (found limit ev segs n m q)
+  past-way : Open limit n q → answer limit ev segs n m q ≡ answerTo (found)
   past-way o = ap (λ (a : Asked). a .answer) (asked-choice limit ev segs n m q _ (o .other) (o .fits) (o .number))
 
-  given-refused : (r : Refusal) → Open limit n q → found limit ev segs n m q .result ≡ evaluation.Refused r → RefusedBy limit ev segs n m q r
-  given-refused r o e = ap (λ (a : Answer). a .way) (past-way o ∙ settled-refused _ _ r e) ∙ way-refused r
+  past-refused : (r : Refusal) → Open limit n q → Found-why r → answer limit ev segs n m q ≡ refusedAnswer r
+  past-refused r o w = past-way o ∙ settled-refused _ _ r (found-refused r w)
 
-  given-infinite : Open limit n q → (s : State) → found limit ev segs n m q .result ≡ evaluation.State s → finiteState s ≡ false → RefusedBy limit ev segs n m q NotFinite
-  given-infinite o s e f = ap (λ (a : Answer). a .way) (past-way o ∙ settled-state _ _ s false e f) ∙ way-refused NotFinite
+  whole : (r : Refusal) → Why r → answer limit ev segs n m q ≡ refusedAnswer r
+  whole r (over e l x) = ap (λ (a : Asked). a .answer) (asked-unfit limit ev segs n m q _ e l) ∙ ap refusedAnswer x
+  whole r (nan w x) = ap (λ (a : Asked). a .answer) (asked-nan limit ev segs n m q _ (w .other) (w .fits) (w .nan)) ∙ ap refusedAnswer x
+  whole r (none b w x) = past-refused r (w .past) (stuck b (w .chaining) (w .stuck) x)
+  whole r (own w) = past-refused r (w .past) (by (w .number) (w .refuses))
+  whole r (infinite w x) =
+      past-way (w .past) ∙ settled-state _ _ (w .state) false (gives-found (w .state) (w .gives)) (infinite-where (w .state) (w .infinite)) ∙ ap refusedAnswer x
+
+  pub given-why : (r : Refusal) → Why r → RefusedBy limit ev segs n m q r
+  given-why r w = ap (λ (a : Answer). a .way) (whole r w) ∙ way-refused r
+
+  past-why : (r : Refusal) → Open limit n q → answerTo (found) .way ≡ ways.Refused r → Why r
+  unfolding choice
+  past-why r o h =
+      ⊎-elim (λ p. of (found-why r p)) (λ p. infinite (record { past = o; state = p .0; gives = found-gives (p .0) (p .1); infinite = infinite-only (p .0) (p .2) }) (p .3))
+      (settled-why _ _ r (way-open ev segs n q choice) h)
+    where
+      of : Found-why r → Why r
+      of (by i w) = own (record { past = o; number = i; refuses = w })
+      of (stuck b c w e) = none b (record { past = o; chaining = c; stuck = w }) e
+
+  pub why : (r : Refusal) → RefusedBy limit ev segs n m q r → Why r
+  unfolding choice
+  why r h =
+      by-test (isSame q) (λ e. absurd (same-open r (from (asked-same limit ev segs n m q choice e))))
+      (λ e.
+      elim (decLt limit n) [
+        | yes l ↦ over e l (answer-refused TableUnfit r (from (asked-unfit limit ev segs n m q choice e l)))
+        | no g ↦
+            let le : n ≤ limit = omega arith in
+            by-test (isNan (q .et))
+            (λ d. nan (record { other = e; fits = le; nan = d }) (answer-refused EpochNan r (from (asked-nan limit ev segs n m q choice e le d))))
+            (λ d. past-why r (record { other = e; fits = le; number = d }) (from (asked-choice limit ev segs n m q choice e le d)))
+      ])
+    where
+      from : {a : Asked} → asked limit ev segs n m q ≡ a → a .answer .way ≡ ways.Refused r
+      from e = ap (λ (x : Asked). x .answer .way) (sym e) ∙ h
+
+  -- **refused-zeros**: with a refusal stand six zeros and no segment
+  pub refused-zeros : (r : Refusal) → RefusedBy limit ev segs n m q r → answer limit ev segs n m q ≡ refusedAnswer r
+  refused-zeros r h = whole r (why r h)
 
   -- where the count fits and no segment of the table is refused with 14, no question is
   pub never-14 : n ≤ limit → ((i : ℕ) → i < n → (et : Float) → ev (seg segs i) i et ≡ evaluation.Refused TableUnfit → ⊥) → RefusedBy limit ev segs n m q TableUnfit → ⊥
-  never-14 le fit h = only (why TableUnfit h .1)
+  never-14 le fit h = only (why TableUnfit h)
     where
       only : Why TableUnfit → ⊥
-      only (unfit l x) = omega arith
-      only (nan l d x) = clash (cc)
-      only (refused o x) =
-          ⊎-elim (λ f. f refl) (λ w. let z = w .is in clash (cc))
-          (found-good ev segs n q (λ r. TableUnfit ≡ r → ⊥) (λ i l et r e t. fit i l et (e ∙ ap evaluation.Refused (sym t))) (forwardIn segs n m q) TableUnfit
-          (forward-chosen segs n m q) x)
-      only (infinite o s x f y) = clash (cc)
+      only (over e l x) = omega arith
+      only (nan w x) = clash (cc)
+      only (none b w x) = clash (cc)
+      only (own w) = let g = refuses-own (w .number) TableUnfit (w .refuses) in fit (w .number) (g .0) (q .et) (g .1)
+      only (infinite w x) = clash (cc)
 
-  module _ (own : OwnOnly ev) where
-    -- what an evaluation of the table's segments gives
-    by-own : (i : ℕ) → i < n → (et : Float) (r : Refusal) → ev (seg segs i) i et ≡ evaluation.Refused r → isOwn r ≡ true
-    by-own i l et r e = own (seg segs i) i et r e
+  module _ (owns : OwnOnly ev) where
+    -- a refusal that no evaluation gives
+    other : {X : Type 0} (r : Refusal) → isOwn r ≡ false → WhenOwn limit ev segs n m q r → X
+    other r f w = absurd (true≢false (sym (owns _ _ _ r (refuses-own (w .number) r (w .refuses) .1)) ∙ f))
 
-    -- a refusal that no evaluation and no walk gives
-    other : {X : Type 0} (r : Refusal) → isOwn r ≡ false → (Eleven r → ⊥) → found limit ev segs n m q .result ≡ evaluation.Refused r → X
-    other r f g e =
-        ⊎-elim (λ o. absurd (true≢false (sym o ∙ f))) (λ w. absurd (g w))
-        (found-good ev segs n q (λ x. isOwn x ≡ true) by-own (forwardIn segs n m q) r (forward-chosen segs n m q) e)
-
+    -- **exactly-when**, 10
     pub exactly-10 : When10 limit ev segs n m q ↔ RefusedBy limit ev segs n m q EpochNan
-    exactly-10 = (where-10, λ h. let w = why EpochNan h in only (w .0) (w .1))
+    exactly-10 = (λ w. given-why EpochNan (nan w refl), λ h. only (why EpochNan h))
       where
-        only : isSame q ≡ false → Why EpochNan → When10 limit ev segs n m q
-        only e (unfit l x) = clash (cc)
-        only e (nan l d x) = record { other = e; fits = l; nan = d }
-        only e (refused o x) = other EpochNan refl (λ w. let z = w .is in clash (cc)) x
-        only e (infinite o s x f y) = clash (cc)
+        only : Why EpochNan → When10 limit ev segs n m q
+        only (over e l x) = clash (cc)
+        only (nan w x) = w
+        only (none b w x) = clash (cc)
+        only (own w) = other EpochNan refl w
+        only (infinite w x) = clash (cc)
 
-        where-10 : When10 limit ev segs n m q → RefusedBy limit ev segs n m q EpochNan
-        where-10 w = ap (λ (a : Asked). a .answer .way) (asked-nan limit ev segs n m q _ (w .other) (w .fits) (w .nan)) ∙ way-refused EpochNan
-
-    pub exactly-14 : When14 limit ev segs n m q ↔ RefusedBy limit ev segs n m q TableUnfit
-    exactly-14 = (λ w. where-14 (w .other) (w .either), λ h. let w = why TableUnfit h in record { other = w .0; either = only (w .1) })
-      where
-        only : Why TableUnfit → (limit < n) ⊎ (Open limit n q × (found limit ev segs n m q .result ≡ evaluation.Refused TableUnfit))
-        only (unfit l x) = inl l
-        only (nan l d x) = clash (cc)
-        only (refused o x) = inr (o, x)
-        only (infinite o s x f y) = clash (cc)
-
-        where-14 : isSame q ≡ false → (limit < n) ⊎ (Open limit n q × (found limit ev segs n m q .result ≡ evaluation.Refused TableUnfit)) → RefusedBy limit ev segs n m q TableUnfit
-        where-14 e =
-            ⊎-elim (λ l. ap (λ (a : Asked). a .answer .way) (asked-unfit limit ev segs n m q _ e l) ∙ way-refused TableUnfit)
-            (λ p. given-refused TableUnfit (p .0) (p .1))
-
-    pub exactly-15 : When15 limit ev segs n m q ↔ RefusedBy limit ev segs n m q NotFinite
-    exactly-15 = (λ w. given-infinite (w .past) (w .state) (w .given) (w .not-finite), λ h. only (why NotFinite h .1))
-      where
-        only : Why NotFinite → When15 limit ev segs n m q
-        only (unfit l x) = clash (cc)
-        only (nan l d x) = clash (cc)
-        only (refused o x) = other NotFinite refl (λ w. let z = w .is in clash (cc)) x
-        only (infinite o s x f y) = record { past = o; state = s; given = x; not-finite = f }
-
+    -- **exactly-when**, 11, whose detail is the body without a way
     pub exactly-11 : (b : ℤ) → When11 limit ev segs n m q b ↔ RefusedBy limit ev segs n m q (NoCoverage b)
-    exactly-11 b = (where-11, λ h. only (why (NoCoverage b) h .1))
+    exactly-11 b = (λ w. given-why (NoCoverage b) (none b w refl), λ h. only (why (NoCoverage b) h))
       where
         only : Why (NoCoverage b) → When11 limit ev segs n m q b
-        only (unfit l x) = clash (cc)
-        only (nan l d x) = clash (cc)
-        only (refused o x) =
-            ⊎-elim (λ y. absurd (true≢false (sym y)))
-            (λ y. record { past = o; forward = y .0; reversed = y .1; chain = y .2 })
-            (found-why ev segs n q (λ r. isOwn r ≡ true) by-own (forwardIn segs n m q) (NoCoverage b) (forward-chosen segs n m q) x)
-        only (infinite o s x f y) = clash (cc)
+        only (over e l x) = clash (cc)
+        only (nan w x) = clash (cc)
+        only (none d w x) = let e : d ≡ b = cc in subst (When11 limit ev segs n m q) e w
+        only (own w) = other (NoCoverage b) refl w
+        only (infinite w x) = clash (cc)
 
-        where-11 : When11 limit ev segs n m q b → RefusedBy limit ev segs n m q (NoCoverage b)
-        where-11 w =
-            given-refused (NoCoverage b) (w .past)
-            (ap (λ (c : Choice). foundBy ev segs n q c .result) (w .forward) ∙ ap (λ (c : Choice). backward ev segs n q c .result) (w .reversed) ∙ w .chain)
+    -- **exactly-when**, 15
+    pub exactly-15 : When15 limit ev segs n m q ↔ RefusedBy limit ev segs n m q NotFinite
+    exactly-15 = (λ w. given-why NotFinite (infinite w refl), λ h. only (why NotFinite h))
+      where
+        only : Why NotFinite → When15 limit ev segs n m q
+        only (over e l x) = clash (cc)
+        only (nan w x) = clash (cc)
+        only (none b w x) = clash (cc)
+        only (own w) = other NotFinite refl w
+        only (infinite w x) = w
 
--- ---- a segment alone
-module _ (limit : ℕ) (ev : Evaluation) (segs : List Segment) (n i : ℕ) (et : Float) where
-  -- it is refused so
-  abbrev pub AloneBy : Refusal → Type 0
-  AloneBy r = aloneAnswer limit ev segs n i et .way ≡ ways.Refused r
+    -- no refusal but 10 to 15 is ever given
+    pub no-other : (r : Refusal) → RefusedBy limit ev segs n m q r → (10 ≤ numberOf r) × (numberOf r ≤ 15)
+    no-other r h = only (why r h)
+      where
+        within : (k : ℕ) → (10 ≤ k) × (k ≤ 15) → k ≡ numberOf r → (10 ≤ numberOf r) × (numberOf r ≤ 15)
+        within k b e = rw e at b
 
-  data WhyAlone (r : Refusal) : Type 0 where
-    unfit : limit < n → TableUnfit ≡ r → WhyAlone r
-    nan : n ≤ limit → isNan et ≡ true → EpochNan ≡ r → WhyAlone r
-    none : n ≤ limit → isNan et ≡ false → n ≤ i → NoSegment ≡ r → WhyAlone r
-    refused : n ≤ limit → isNan et ≡ false → i < n → ev (seg segs i) i et ≡ evaluation.Refused r → WhyAlone r
-    infinite : n ≤ limit → isNan et ≡ false → i < n → (s : State) → ev (seg segs i) i et ≡ evaluation.State s → finiteState s ≡ false → NotFinite ≡ r → WhyAlone r
+        only : Why r → (10 ≤ numberOf r) × (numberOf r ≤ 15)
+        only (over e l x) = within 14 (omega arith) (ap numberOf x)
+        only (nan w x) = within 10 (omega arith) (ap numberOf x)
+        only (none b w x) = within 11 (omega arith) (ap numberOf x)
+        only (own w) = let b = own-within (numberOf r) (owns _ _ _ r (refuses-own (w .number) r (w .refuses) .1)) in omega arith
+        only (infinite w x) = within 15 (omega arith) (ap numberOf x)
 
-  why-alone : (r : Refusal) → AloneBy r → WhyAlone r
-  why-alone r h =
-      elim (decLt limit n) [
-        | yes l ↦ unfit l (from TableUnfit (alone-unfit limit ev segs n i et l))
-        | no g ↦
-            let le : n ≤ limit = omega arith in
-            by-test (isNan et) (λ d. nan le d (from EpochNan (alone-nan limit ev segs n i et le d)))
-            (λ d.
-            elim (decLt i n) [
-              | yes b ↦
-                  ⊎-elim (λ p. refused le d b p) (λ p. infinite le d b (p .0) (p .1) (p .2) (p .3))
-                  (settled-why (ways.Forward i) (ev (seg segs i) i et) r refl (ap (λ (a : Answer). a .way) (sym (alone-some limit ev segs n i et le d b)) ∙ h))
-              | no b ↦ none le d (omega arith) (from NoSegment (alone-none limit ev segs n i et le d (omega arith)))
-            ])
-      ]
+  -- **exactly-when**, 14
+  pub exactly-14 : When14 limit ev segs n m q ↔ RefusedBy limit ev segs n m q TableUnfit
+  exactly-14 = (λ w. ⊎-elim (λ l. given-why TableUnfit (over (w .other) l refl)) (λ x. given-why TableUnfit (own x)) (w .either), λ h. only (why TableUnfit h))
     where
-      from : (x : Refusal) → aloneAnswer limit ev segs n i et ≡ refusedAnswer x → x ≡ r
-      from x e = answer-refused x r (ap (λ (a : Answer). a .way) (sym e) ∙ h)
+      only : Why TableUnfit → When14 limit ev segs n m q
+      only (over e l x) = record { other = e; either = inl l }
+      only (nan w x) = clash (cc)
+      only (none b w x) = clash (cc)
+      only (own w) = record { other = w .past .other; either = inr w }
+      only (infinite w x) = clash (cc)
 
-  by-refusal : (r : Refusal) → aloneAnswer limit ev segs n i et ≡ refusedAnswer r → AloneBy r
-  by-refusal r e = ap (λ (a : Answer). a .way) e ∙ way-refused r
+  -- **exactly-when**, 12 and 13: a segment that is evaluated is refused so
+  pub exactly-own : (r : Refusal) → is12or13 r ≡ true → WhenOwn limit ev segs n m q r ↔ RefusedBy limit ev segs n m q r
+  exactly-own r t = (λ w. given-why r (own w), λ h. only (why r h))
+    where
+      no : {X : Type 0} (x : Refusal) → x ≡ r → is12or13 x ≡ false → X
+      no x e f = absurd (true≢false (sym t ∙ ap is12or13 (sym e) ∙ f))
 
-  module _ (own : OwnOnly ev) where
-    foreign : {X : Type 0} (r : Refusal) → isOwn r ≡ false → ev (seg segs i) i et ≡ evaluation.Refused r → X
-    foreign r f e = absurd (true≢false (sym (own (seg segs i) i et r e) ∙ f))
-
-    pub alone-10 : (n ≤ limit) × (isNan et ≡ true) ↔ AloneBy EpochNan
-    alone-10 = (λ w. by-refusal EpochNan (alone-nan limit ev segs n i et (w .0) (w .1)), λ h. only (why-alone EpochNan h))
-      where
-        only : WhyAlone EpochNan → (n ≤ limit) × (isNan et ≡ true)
-        only (unfit l x) = clash (cc)
-        only (nan l d x) = (l, d)
-        only (none l d b x) = clash (cc)
-        only (refused l d b x) = foreign EpochNan refl x
-        only (infinite l d b s x f y) = clash (cc)
-
-    pub alone-17 : (n ≤ limit) × (isNan et ≡ false) × (n ≤ i) ↔ AloneBy NoSegment
-    alone-17 = (λ w. by-refusal NoSegment (alone-none limit ev segs n i et (w .0) (w .1) (w .2)), λ h. only (why-alone NoSegment h))
-      where
-        only : WhyAlone NoSegment → (n ≤ limit) × (isNan et ≡ false) × (n ≤ i)
-        only (unfit l x) = clash (cc)
-        only (nan l d x) = clash (cc)
-        only (none l d b x) = (l, d, b)
-        only (refused l d b x) = foreign NoSegment refl x
-        only (infinite l d b s x f y) = clash (cc)
-
-    pub alone-14 : (limit < n) ⊎ ((n ≤ limit) × (isNan et ≡ false) × (i < n) × (ev (seg segs i) i et ≡ evaluation.Refused TableUnfit)) ↔ AloneBy TableUnfit
-    alone-14 = (
-      ⊎-elim (λ l. by-refusal TableUnfit (alone-unfit limit ev segs n i et l))
-          (λ w. by-refusal TableUnfit (alone-some limit ev segs n i et (w .0) (w .1) (w .2) ∙ settled-refused _ _ TableUnfit (w .3))),
-      λ h. only (why-alone TableUnfit h),
-    )
-      where
-        only : WhyAlone TableUnfit → (limit < n) ⊎ ((n ≤ limit) × (isNan et ≡ false) × (i < n) × (ev (seg segs i) i et ≡ evaluation.Refused TableUnfit))
-        only (unfit l x) = inl l
-        only (nan l d x) = clash (cc)
-        only (none l d b x) = clash (cc)
-        only (refused l d b x) = inr (l, d, b, x)
-        only (infinite l d b s x f y) = clash (cc)
-
-    pub alone-15 : (n ≤ limit) × (isNan et ≡ false) × (i < n) × ((s : State) × (ev (seg segs i) i et ≡ evaluation.State s) × (finiteState s ≡ false)) ↔ AloneBy NotFinite
-    alone-15 = (
-      λ w. by-refusal NotFinite (alone-some limit ev segs n i et (w .0) (w .1) (w .2) ∙ settled-state _ _ (w .3 .0) false (w .3 .1) (w .3 .2)),
-      λ h. only (why-alone NotFinite h),
-    )
-      where
-        only : WhyAlone NotFinite → (n ≤ limit) × (isNan et ≡ false) × (i < n) × ((s : State) × (ev (seg segs i) i et ≡ evaluation.State s) × (finiteState s ≡ false))
-        only (unfit l x) = clash (cc)
-        only (nan l d x) = clash (cc)
-        only (none l d b x) = clash (cc)
-        only (refused l d b x) = foreign NotFinite refl x
-        only (infinite l d b s x f y) = (l, d, b, (s, x, f))
+      only : Why r → WhenOwn limit ev segs n m q r
+      only (over e l x) = no TableUnfit x refl
+      only (nan w x) = no EpochNan x refl
+      only (none b w x) = no (NoCoverage b) x refl
+      only (own w) = w
+      only (infinite w x) = no NotFinite x refl

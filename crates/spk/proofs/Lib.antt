@@ -1,7 +1,10 @@
 -- Laws that belong to no one function.
 pub mod Cases
 pub mod Exactly
+pub mod ExactlyAlone
+pub mod ExactlyIn
 pub mod Finding
+pub mod Fits
 pub mod Forged
 pub mod InKernel
 pub mod NoMemory
@@ -10,3 +13,4 @@ pub mod OwnBytes
 pub mod Settling
 pub mod Single
 pub mod TwoAnswers
+pub mod Told

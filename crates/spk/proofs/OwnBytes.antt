@@ -1,23 +1,25 @@
 -- AN ANSWER DEPENDS ON NOTHING BUT THE SEGMENTS THAT IT EVALUATES: two evaluations (of one table, over two kernels) that agree on those
 -- give the same answer and the same memory.
+--     own-asked                    any question, by the segments that it evaluates
 --     own-forward, own-reversed    an answer that names a segment, by that segment alone
---     own-chained                  a chained question, by the segments that its two walks evaluate
 --     own-alone                    a segment alone, by itself
+--     own-replied                  a question of any kind, by the segments that it evaluates
+--     turned-way                   a question in a frame that is answered has the way of the question itself
 -- What an evaluation of one segment depends on, its own doubles, is in `InKernel`.
 -- Assumes nothing.
 use Prim.Native.Nat.{ℕ, _≤_}
-use mathlib.Core.Path.{_≡_, refl, sym, ap, ap₂, _∙_}
+use mathlib.Core.Path.{_≡_, refl, sym, ap, ap₂, _∙_, subst}
 use mathlib.Core.Bool.{Bool, true, false, cond, true≢false}
 use mathlib.Core.List.{List, [], _∷_}
 use native.Mathlib.Omega.{arith}
 use native.Mathlib.Decide.{decLt}
-use lib.Dec.{ltb, leb}
+use lib.Dec.{ltb}
 use lib.Ieee.{Float, isNan}
 use Rattle.bits.proofs.Tests.{by-test}
-use Rattle.frame.specs.declared.State.{State}
 use Rattle.frame.specs.State.{finiteState}
+use Rattle.frame.specs.Frame.{Matrix}
 use Rattle.refusal.specs.declared.Refusal.{Refusal}
-use Rattle.refusal.specs.declared.Refusal.the-variants.{TableUnfit, EpochNan, NoSegment, NotFinite}
+use Rattle.refusal.specs.declared.Refusal.the-variants.{TableUnfit, EpochNan, NotFinite}
 use Rattle.refusal.specs.Order.{case, firstOf}
 use Rattle.segment.specs.declared.Segment.{Segment}
 use Rattle.segment.specs.declared.Evaluated.{Evaluated}
@@ -25,26 +27,32 @@ use Rattle.segment.specs.declared.Evaluated.the-variants as evaluation
 use Rattle.table.specs.declared.Choice.{Choice}
 use Rattle.table.specs.declared.Choice.the-variants.{At, Nothing}
 use Rattle.chain.specs.Step.{Evaluation}
-use Rattle.chain.specs.Walk.{chainLimit}
-use Rattle.chain.specs.Touched.{TouchedOn}
+use Rattle.chain.specs.Walk.{chainLimit, toZero}
 use Rattle.chain.proofs.Ends.{clash}
-use Rattle.chain.proofs.Own.{Alike, zero-alike}
+use Rattle.chain.proofs.Own.{Alike, touched-on, zero-alike}
 use Rattle.spk.specs.declared.Question.{Question}
 use Rattle.spk.specs.declared.Memory.{Memory}
 use Rattle.spk.specs.declared.Way.{Way}
 use Rattle.spk.specs.declared.Way.the-variants as ways
 use Rattle.spk.specs.declared.Answer.{Answer}
 use Rattle.spk.specs.declared.Asked.{Asked}
+use Rattle.spk.specs.declared.Wanted.{Wanted}
+use Rattle.spk.specs.declared.Wanted.the-variants.{AsItStands, In}
 use Rattle.spk.specs.Questions.{isSame, swapped}
 use Rattle.spk.specs.Choosing.{lastReversed, forwardIn, remembered}
 use Rattle.spk.specs.Answers.{answerOf, refusedAnswer, sameAnswer, settled, negatedOf, differenceOf}
 use Rattle.spk.specs.Asking.{Found, legFrom, chained, backward, foundBy, answerTo, askedBy, asked}
+use Rattle.spk.specs.Turning.{isRefused, turnedAnswer, turnedAsked}
 use Rattle.spk.specs.Alone.{aloneAnswer}
+use Rattle.spk.specs.Runs.{Asking, Plain, InFrame, Single, replied}
+use Rattle.spk.specs.When.{Evaluates}
+use Rattle.spk.specs.Touched.{TouchedChain, touchedBack, touchedBy, Touched, TouchedReplied}
+use Rattle.spk.proofs.Single.{turned-by, alone-unfit, alone-nan, alone-none, alone-some}
 use Rattle.spk.proofs.Order.{asked-same, asked-unfit, asked-nan, asked-choice}
 
 -- ---- an answer that names a segment was given by it
 -- neither zeros for the same body nor a refusal
-abbrev byState : Way → Bool
+abbrev pub byState : Way → Bool
 byState ways.Same = false
 byState (ways.Forward i) = true
 byState (ways.Reversed i) = true
@@ -114,6 +122,33 @@ module _ (limit : ℕ) (ev : Evaluation) (segs : List Segment) (n : ℕ) (m : Me
       go (At j) e w = clash (cc)
       go Nothing e w = (e, back (lastReversed segs n q) refl w)
 
+-- turning an answer that is none of these leaves its way
+pub turned-way : (wanted : Wanted) (rot : Matrix) (a : Answer) (w : Way) → byState w ≡ true → turnedAnswer wanted rot a .way ≡ w → a .way ≡ w
+turned-way AsItStands rot a w t h = h
+turned-way (In to) rot a w t h =
+    by-test (isRefused (a .way)) (λ e. ap (λ (x : Answer). x .way) (sym (turned-by to rot a true e)) ∙ h)
+    (λ e. settled-way (a .way) _ w t (ap (λ (x : Answer). x .way) (sym (turned-by to rot a false e)) ∙ h))
+
+-- ---- what holds of the segments that a question evaluates, and implies something, makes that hold of them
+module _ (limit : ℕ) (ev : Evaluation) (segs : List Segment) (n : ℕ) (m : Memory) (q : Question) (P Q : ℕ → Type 0) (f : (i : ℕ) → P i → Q i) where
+  touched-back : (c : Choice) → touchedBack ev segs n P q c → touchedBack ev segs n Q q c
+  touched-back (At i) t = f i t
+  touched-back Nothing t =
+      record { target = λ h. touched-on ev segs P Q f n (legFrom q) chainLimit (t .target h); center = λ a h. touched-on ev segs P Q f n (legFrom (swapped q)) chainLimit (t .center a h) }
+
+  touched-by : (c : Choice) → touchedBy ev segs n P q c → touchedBy ev segs n Q q c
+  touched-by (At i) t = f i t
+  touched-by Nothing t = touched-back (lastReversed segs n q) t
+
+  touched-asked : Touched limit ev segs n m q P → Touched limit ev segs n m q Q
+  touched-asked t o = touched-by (forwardIn segs n m q) (t o)
+
+pub touched-replied : (limit : ℕ) (ev : Evaluation) (segs : List Segment) (n : ℕ) (m : Memory) (P Q : ℕ → Type 0) → ((i : ℕ) → P i → Q i) → (a : Asking)
+    → TouchedReplied limit ev segs n m a P → TouchedReplied limit ev segs n m a Q
+touched-replied limit ev segs n m P Q f (Plain q) t = touched-asked limit ev segs n m q P Q f t
+touched-replied limit ev segs n m P Q f (InFrame q wanted rot) t = touched-asked limit ev segs n m q P Q f t
+touched-replied limit ev segs n m P Q f (Single i et) t = λ e. f i (t e)
+
 -- ---- two evaluations
 module _ (limit : ℕ) (ev ev' : Evaluation) (segs : List Segment) (n : ℕ) (m : Memory) (q : Question) where
   alike-found : (c : Choice) → foundBy ev segs n q c ≡ foundBy ev' segs n q c → askedBy limit ev segs n m q c ≡ askedBy limit ev' segs n m q c
@@ -125,42 +160,82 @@ module _ (limit : ℕ) (ev ev' : Evaluation) (segs : List Segment) (n : ℕ) (m 
       (firstOf (case (ltb limit n) TableUnfit ∷ case (isNan (q .et)) EpochNan ∷ []) (λ r. record { answer = refusedAnswer r; memory = m })
       (record { answer = answerTo f; memory = remembered segs m c }))) e
 
-  alike-choice : (c : Choice) → forwardIn segs n m q ≡ c → foundBy ev segs n q c ≡ foundBy ev' segs n q c → asked limit ev segs n m q ≡ asked limit ev' segs n m q
-  alike-choice c f e =
-      ap (askedBy limit ev segs n m q) f ∙ alike-found c e ∙ sym (ap (askedBy limit ev' segs n m q) f)
+  -- the chain, by what its walks evaluate
+  chain-alike : TouchedChain ev segs n (Alike ev ev' segs) q → chained ev segs n q ≡ chained ev' segs n q
+  unfolding chained differenceOf
+  chain-alike t = go (toZero ev segs n (legFrom q)) refl
+    where
+      target : toZero ev segs n (legFrom q) ≡ toZero ev' segs n (legFrom q)
+      target = zero-alike ev ev' segs n (legFrom q) (t .target)
 
-  alike-back : (c : Choice) → forwardIn segs n m q ≡ Nothing → lastReversed segs n q ≡ c → backward ev segs n q c ≡ backward ev' segs n q c → asked limit ev segs n m q ≡ asked limit ev' segs n m q
-  alike-back c f r e =
-      alike-choice Nothing f (ap (backward ev segs n q) r ∙ e ∙ sym (ap (backward ev' segs n q) r))
+      go : (e : Evaluated) → toZero ev segs n (legFrom q) ≡ e
+          → differenceOf (toZero ev segs n (legFrom q)) (toZero ev segs n (legFrom (swapped q))) ≡ differenceOf (toZero ev' segs n (legFrom q)) (toZero ev' segs n (legFrom (swapped q)))
+      go (evaluation.State x) u = ap₂ differenceOf target (zero-alike ev ev' segs n (legFrom (swapped q)) (t .center (x, u)))
+      go (evaluation.Refused r) u =
+          ap (λ (e : Evaluated). differenceOf e (toZero ev segs n (legFrom (swapped q)))) u
+          ∙ ap (λ (e : Evaluated). differenceOf e (toZero ev' segs n (legFrom (swapped q)))) (sym u ∙ target)
+
+  back-alike : (c : Choice) → touchedBack ev segs n (Alike ev ev' segs) q c → backward ev segs n q c ≡ backward ev' segs n q c
+  back-alike (At i) t = ap (λ (x : Evaluated). record { way = ways.Reversed i; result = negatedOf x }) (t (q .et))
+  back-alike Nothing t = ap (λ (x : Evaluated). record { way = ways.Chained; result = x }) (chain-alike t)
+
+  found-alike : (c : Choice) → touchedBy ev segs n (Alike ev ev' segs) q c → foundBy ev segs n q c ≡ foundBy ev' segs n q c
+  found-alike (At i) t = ap (λ (x : Evaluated). record { way = ways.Forward i; result = x }) (t (q .et))
+  found-alike Nothing t = back-alike (lastReversed segs n q) t
+
+  -- any question, by the segments that it evaluates
+  pub own-asked : Touched limit ev segs n m q (Alike ev ev' segs) → asked limit ev segs n m q ≡ asked limit ev' segs n m q
+  own-asked t =
+      by-test (isSame q) (λ e. asked-same limit ev segs n m q choice e ∙ sym (asked-same limit ev' segs n m q choice e))
+      (λ e.
+      elim (decLt limit n) [
+        | yes l ↦ asked-unfit limit ev segs n m q choice e l ∙ sym (asked-unfit limit ev' segs n m q choice e l)
+        | no g ↦
+            let le : n ≤ limit = omega arith in
+            by-test (isNan (q .et)) (λ d. asked-nan limit ev segs n m q choice e le d ∙ sym (asked-nan limit ev' segs n m q choice e le d))
+            (λ d. alike-found choice (found-alike choice (t (record { other = e; fits = le; number = d }))))
+      ])
+    where
+      choice : Choice
+      choice = forwardIn segs n m q
 
   -- an answer that names a segment forward
   pub own-forward : (i : ℕ) → asked limit ev segs n m q .answer .way ≡ ways.Forward i → Alike ev ev' segs i
       → asked limit ev segs n m q ≡ asked limit ev' segs n m q
-  own-forward i w e =
-      alike-choice (At i) (named-forward limit ev segs n m q i w) (ap (λ (x : Evaluated). record { way = ways.Forward i; result = x }) (e (q .et)))
+  own-forward i w e = own-asked (λ o. subst (touchedBy ev segs n (Alike ev ev' segs) q) (sym (named-forward limit ev segs n m q i w)) e)
 
   -- an answer that names a segment reversed
   pub own-reversed : (i : ℕ) → asked limit ev segs n m q .answer .way ≡ ways.Reversed i → Alike ev ev' segs i
       → asked limit ev segs n m q ≡ asked limit ev' segs n m q
   own-reversed i w e =
       let r = named-reversed limit ev segs n m q i w in
-      alike-back (At i) (r .0) (r .1) (ap (λ (x : Evaluated). record { way = ways.Reversed i; result = negatedOf x }) (e (q .et)))
+      own-asked
+      (λ o. subst (touchedBy ev segs n (Alike ev ev' segs) q) (sym (r .0)) (subst (touchedBack ev segs n (Alike ev ev' segs) q) (sym (r .1)) e))
 
-  -- a question with no segment of its pair either way
-  pub own-chained : forwardIn segs n m q ≡ Nothing → lastReversed segs n q ≡ Nothing
-      → TouchedOn ev segs n (Alike ev ev' segs) (legFrom q) chainLimit → TouchedOn ev segs n (Alike ev ev' segs) (legFrom (swapped q)) chainLimit
-      → asked limit ev segs n m q ≡ asked limit ev' segs n m q
-  unfolding chained
-  own-chained f r a b =
-      alike-back Nothing f r
-      (ap₂ (λ (x y : Evaluated). record { way = ways.Chained; result = differenceOf x y }) (zero-alike ev ev' segs n (legFrom q) a)
-      (zero-alike ev ev' segs n (legFrom (swapped q)) b))
-
--- a segment alone
-pub own-alone : (limit : ℕ) (ev ev' : Evaluation) (segs : List Segment) (n i : ℕ) (et : Float) → Alike ev ev' segs i
+-- a segment alone, where it is evaluated
+pub own-alone : (limit : ℕ) (ev ev' : Evaluation) (segs : List Segment) (n i : ℕ) (et : Float) → (Evaluates limit ev segs n i et → Alike ev ev' segs i)
     → aloneAnswer limit ev segs n i et ≡ aloneAnswer limit ev' segs n i et
-unfolding aloneAnswer
-own-alone limit ev ev' segs n i et e =
-    ap
-    (λ (x : Evaluated).
-    firstOf (case (ltb limit n) TableUnfit ∷ case (isNan et) EpochNan ∷ case (leb n i) NoSegment ∷ []) refusedAnswer (settled (ways.Forward i) x)) (e et)
+own-alone limit ev ev' segs n i et t =
+    elim (decLt limit n) [
+      | yes l ↦ alone-unfit limit ev segs n i et l ∙ sym (alone-unfit limit ev' segs n i et l)
+      | no g ↦
+          let le : n ≤ limit = omega arith in
+          by-test (isNan et) (λ d. alone-nan limit ev segs n i et le d ∙ sym (alone-nan limit ev' segs n i et le d))
+          (λ d.
+          elim (decLt i n) [
+            | yes b ↦
+                alone-some limit ev segs n i et le d b
+                ∙ ap (settled (ways.Forward i)) (t (record { past = record { fits = le; number = d }; below = b }) et)
+                ∙ sym (alone-some limit ev' segs n i et le d b)
+            | no b ↦
+                let far : n ≤ i = omega arith in
+                alone-none limit ev segs n i et le d far ∙ sym (alone-none limit ev' segs n i et le d far)
+          ])
+    ]
+
+-- a question of any kind
+pub own-replied : (limit : ℕ) (ev ev' : Evaluation) (segs : List Segment) (n : ℕ) (m : Memory) (a : Asking) → TouchedReplied limit ev segs n m a (Alike ev ev' segs)
+    → replied limit ev segs n m a ≡ replied limit ev' segs n m a
+own-replied limit ev ev' segs n m (Plain q) t = own-asked limit ev ev' segs n m q t
+own-replied limit ev ev' segs n m (InFrame q wanted rot) t = ap (turnedAsked wanted rot) (own-asked limit ev ev' segs n m q t)
+own-replied limit ev ev' segs n m (Single i et) t = ap (λ (x : Answer). record { answer = x; memory = m }) (own-alone limit ev ev' segs n i et t)

@@ -6,5 +6,7 @@ pub mod Choosing
 pub mod Finding
 pub mod Questions
 pub mod Runs
+pub mod Touched
 pub mod Turning
 pub mod When
+pub mod Paper

@@ -1,2 +1,3 @@
 -- Laws that other crates cite.
 pub mod Counted
+pub mod TwoAnswers

@@ -1,2 +1,3 @@
 -- A law on state matrices.
 pub mod Laws
+pub mod TwoAnswers

@@ -5,3 +5,4 @@ pub mod Last
 pub mod Limits
 pub mod Marks
 pub mod Names
+pub mod TwoAnswers

@@ -4,6 +4,7 @@ pub mod Moved
 pub mod Order
 pub mod Counts
 pub mod Tallying
+pub mod TwoAnswers
 pub mod Ways
 pub mod Exactly
 pub mod Same

@@ -14,23 +14,11 @@ abbrev μ-loop : tie.MeasureT-loop
 loop-holds : tie.Need-loop-holds Inv-loop μ-loop
 loop-holds c = search needs
 
-mul-p : tie.Need-mul-p Inv-loop μ-loop
-mul-p c = search needs
+number-at-requires : tie.Need-number-at-requires Inv-loop μ-loop
+number-at-requires c κs = search needs
 
-add-le-u32 : tie.Need-add-le-u32 Inv-loop μ-loop
-add-le-u32 c = search needs
-
-le-u32-requires : tie.Need-le-u32-requires Inv-loop μ-loop
-le-u32-requires c κs = search needs
-
-add-double-at : tie.Need-add-double-at Inv-loop μ-loop
-add-double-at c = search needs
-
-double-at-requires : tie.Need-double-at-requires Inv-loop μ-loop
-double-at-requires c κs = search needs
-
-cast-alone : tie.Need-cast-alone Inv-loop μ-loop
-cast-alone c = search needs
+epoch-at-requires : tie.Need-epoch-at-requires Inv-loop μ-loop
+epoch-at-requires c κs = search needs
 
 alone-requires : tie.Need-alone-requires Inv-loop μ-loop
 alone-requires c κs = search needs
@@ -60,12 +48,8 @@ write-each-spec =
     Inv-loop
     μ-loop
     loop-holds
-    mul-p
-    add-le-u32
-    le-u32-requires
-    add-double-at
-    double-at-requires
-    cast-alone
+    number-at-requires
+    epoch-at-requires
     alone-requires
     write-answer-requires
     returns

@@ -21,10 +21,10 @@ met-requires : tie.Need-met-requires
 met-requires c κs = search needs
 
 returns : tie.Need-returns
-returns c = look-seen _ _ _ _ _ _ (c .before .before .before .before .before .pre .1) (sym (c .before .before .before .evaluate .ensures) ∙ c .before .e .given .1)
+returns c = look-seen _ _ _ _ _ _ (c .before .before .before .before .before .pre .1) (sym (c .before .before .before .evaluate .ensures .0) ∙ c .before .e .given .1)
 
 returns-2 : tie.Need-returns-2
-returns-2 c = c .met .ensures ∙ look-seen _ _ _ _ _ _ (c .before .before .before .before .before .before .pre .1) (sym (c .before .before .before .before .evaluate .ensures) ∙ c .before .before .e2 .given .1)
+returns-2 c = c .met .ensures ∙ look-seen _ _ _ _ _ _ (c .before .before .before .before .before .before .pre .1) (sym (c .before .before .before .before .evaluate .ensures .0) ∙ c .before .before .e2 .given .1)
 
 pub look-spec : {M : Type 1} → statement M
 look-spec = tie.close (tie.spec cast-evaluate evaluate-requires enum-known-e enum-known-e-2 met-requires returns returns-2)

@@ -1,6 +1,8 @@
 -- `indexed::orient` meets its contract: a walk of its MIR, by hand: two paths, by whether the index has room.
 -- Assumes nothing.
-use Rattle.lent.proofs.Walking.{ℕ, Lft, Share, ftrue, flft, fat, froom, fdies, SProp, ent, emp, via, fst∗, Lfts, Fun, givenOf, tables, tablesOf, usize, u8, yes, Is, pointee, uint-makes, uint-vals, uint-tells, owns, RefT, plain, sliceVal, ShrSlice, Room, slice-vals, shr-slice-tells, sliceTy, owned, nothing, Vals, onEntry, Meets, tripleOf, Triple, entered, cited, says, Stays, stay-none-slice, walkOf, goes-none-slice, Walks, ends-at, walked, walk-meets, stay-none, goes-none, Atoms, fullShare, URA, length, Bool, true, false, List, [], _∷_, refl, _≡_, named, w64, tyInt, tyBool, Ty, imm, w8, tyRef, Val, vint, vbool, Memory, Routine, Heap, WpFn, Tables, Env, WpFn-mono, FmC, fmOf, Given, ‵, _⊛_, _$_, _∵_, !, qed, by, move, suffices, frame, done, ⋆, keep, split, join, rewrite, fsplit, fjoin, Item, Sq, runs, atRet, frees, prop, look, init, forget, stop, from, load, returns, enter, alloc1, alloc0, params1, pass1, pass0, free1, free0, and-then, no-more, land, first, exec, branches, skips, returns-within}
+use Rattle.lent.proofs.Walking.{ℕ, Lft, Share, ftrue, flft, fat, froom, fdies, SProp, ent, emp, via, fst∗, Lfts, Fun, givenOf, tables, tablesOf, usize, u8, yes, Is, pointee, uint-makes, uint-vals, uint-tells, owns, RefT, plain, sliceVal, ShrSlice, Room, slice-vals, shr-slice-tells, sliceTy, owned, nothing, Vals, onEntry, Meets, tripleOf, Triple, entered, cited, Stays, stay-none-slice, walkOf, goes-none-slice, Walks, ends-at, walked, walk-meets, stay-none, goes-none, Atoms, fullShare, URA, length, Bool, true, false, List, [], _∷_, refl, _≡_, named, w64, tyInt, tyBool, Ty, imm, w8, tyRef, Val, vint, vbool, Memory, Routine, Heap, WpFn, Tables, Env, WpFn-mono, FmC, fmOf, Given, ‵, _⊛_, _$_, _∵_, !, qed, by, move, suffices, frame, done, ⋆, keep, split, join, rewrite, fsplit, fjoin, Item, Sq, runs, atRet, frees, prop, look, init, forget, stop, from, load, returns, enter, alloc1, alloc0, params1, pass1, pass0, free1, free0, and-then, no-more, land, first, exec, branches, skips, returns-within}
+use Rattle.pck.specs.Paper.{orientedTold}
+use Rattle.lent.proofs.Telling.{tells}
 use Rattle.segment.specs.declared.Segment.{Segment}
 use Rattle.pck.specs.declared.Question.{Question as BodyQuestion}
 use Rattle.pck.specs.declared.Oriented.{Oriented}
@@ -63,7 +65,7 @@ module _ {M : Type 1} (𝓤 : URA M) (H : Heap 𝓤) (A : Atoms 𝓤) (W : Given
   exits : (r : Oriented) → r ≡ orientedWith (limitOf (length (t .now))) (k .now) (t .now) n (x .now) y → Is Ori r (ori r ∷ []) → ent 𝓤 (⋆ 𝓤 H A (‵ (ShrOwn u8 κ k) ∷ ‵ (flft κ q) ∷ ‵ (ShrOwn Seg κ′ t) ∷ ‵ (flft κ′ q′) ∷ ‵ (ShrOwn u16 κ″ x) ∷ ‵ (flft κ″ q″) ∷ [])) (Post (ori r))
   exits r e is =
       qed W (‵ (ShrOwn u8 κ k) ∷ ‵ (flft κ q) ∷ ‵ (ShrOwn Seg κ′ t) ∷ ‵ (flft κ′ q′) ∷ ‵ (ShrOwn u16 κ″ x) ∷ ‵ (flft κ″ q″) ∷ []) ∵
-      suffices ! _ (ends-at 𝓤 H A f.ended stayed (f.clauses 𝓤 H A mem run) W ((κs, (q, (q′, (q″, tt))), tt, a₀, at), tt) (ori r) r (tt, (tt, (tt, (tt, (tt, tt))))) (tt, (tt, (tt, (tt, (tt, tt)))))) $ says ! e $
+      suffices ! _ (ends-at 𝓤 H A f.ended stayed (f.clauses 𝓤 H A mem run) W ((κs, (q, (q′, (q″, tt))), tt, a₀, at), tt) (ori r) r (tt, (tt, (tt, (tt, (tt, tt))))) (tt, (tt, (tt, (tt, (tt, tt)))))) $ tells ! orientedTold e $
       nothing ! $ move ! (6 ∷ 0 ∷ []) $ join ! $ move ! (4 ∷ 0 ∷ []) $ join ! $ move ! (2 ∷ 0 ∷ []) $ join ! $ frame ! $
       nothing ! $ owned ! Bod (Is Bod) (bod-makes 𝓤 H A W) y _ is-y $ fjoin ! $ owned ! usize (Is usize) (uint-makes 𝓤 H A W w64) n _ is-n $ fjoin ! $ move ! (3 ∷ 0 ∷ []) $ fjoin ! $ move ! (2 ∷ 0 ∷ []) $ fjoin ! $ move ! (1 ∷ 0 ∷ []) $ fjoin ! $
       frame ! $ owned ! Ori (Is Ori) (ori-makes 𝓤 H A W) r _ is $ done !

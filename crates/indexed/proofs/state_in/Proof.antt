@@ -1,6 +1,8 @@
 -- `indexed::state_in` meets its contract: a walk of its MIR, by hand: calls alone.
 -- Assumes nothing.
-use Rattle.lent.proofs.Walking.{ℕ, Lft, Share, ftrue, flft, SProp, ent, emp, via, fst∗, Lfts, Fun, givenOf, tables, tablesOf, usize, u8, yes, Is, uint-makes, uint-vals, uint-tells, owns, RefT, plain, sliceVal, ShrSlice, Room, slice-vals, shr-slice-tells, owned, nothing, Vals, onEntry, Meets, tripleOf, Triple, entered, cited, says, Stays, stay-none-slice, walkOf, goes-none-slice, Walks, ends-at, walked, walk-meets, stay-none, goes-none, Atoms, URA, length, List, [], _∷_, refl, _≡_, named, w64, Val, vint, Memory, Routine, Heap, WpFn, Tables, WpFn-mono, FmC, fmOf, Given, ‵, _⊛_, _$_, _∵_, !, qed, by, move, suffices, frame, done, ⋆, keep, split, join, fsplit, fjoin, look, init, forget, stop, from, load, returns, enter, alloc1, alloc0, params1, pass1, pass0, free1, free0, and-then, no-more, land}
+use Rattle.lent.proofs.Walking.{ℕ, Lft, Share, ftrue, flft, SProp, ent, emp, via, fst∗, Lfts, Fun, givenOf, tables, tablesOf, usize, u8, yes, Is, uint-makes, uint-vals, uint-tells, owns, RefT, plain, sliceVal, ShrSlice, Room, slice-vals, shr-slice-tells, owned, nothing, Vals, onEntry, Meets, tripleOf, Triple, entered, cited, Stays, stay-none-slice, walkOf, goes-none-slice, Walks, ends-at, walked, walk-meets, stay-none, goes-none, Atoms, URA, length, List, [], _∷_, refl, _≡_, named, w64, Val, vint, Memory, Routine, Heap, WpFn, Tables, WpFn-mono, FmC, fmOf, Given, ‵, _⊛_, _$_, _∵_, !, qed, by, move, suffices, frame, done, ⋆, keep, split, join, fsplit, fjoin, look, init, forget, stop, from, load, returns, enter, alloc1, alloc0, params1, pass1, pass0, free1, free0, and-then, no-more, land}
+use Rattle.spk.specs.Paper.{askedTold}
+use Rattle.lent.proofs.Telling.{tells}
 use Rattle.segment.specs.declared.Segment.{Segment}
 use Rattle.spk.specs.declared.Asked.{Asked}
 use Rattle.spk.specs.declared.Memory.{Memory as Remembered}
@@ -61,7 +63,7 @@ module _ {M : Type 1} (𝓤 : URA M) (H : Heap 𝓤) (A : Atoms 𝓤) (W : Given
   exits : (r : Asked) → r ≡ askedInWith (limitOf (length (t .now))) (evaluated Spk (k .now)) (t .now) n (x .now) m y w b → Is Ask r (ask r ∷ []) → ent 𝓤 (⋆ 𝓤 H A (‵ (ShrOwn u8 κ k) ∷ ‵ (flft κ q) ∷ ‵ (ShrOwn Seg κ′ t) ∷ ‵ (flft κ′ q′) ∷ ‵ (ShrOwn u16 κ″ x) ∷ ‵ (flft κ″ q″) ∷ [])) (Post (ask r))
   exits r e is =
       qed W (‵ (ShrOwn u8 κ k) ∷ ‵ (flft κ q) ∷ ‵ (ShrOwn Seg κ′ t) ∷ ‵ (flft κ′ q′) ∷ ‵ (ShrOwn u16 κ″ x) ∷ ‵ (flft κ″ q″) ∷ []) ∵
-      suffices ! _ (ends-at 𝓤 H A f.ended stayed (f.clauses 𝓤 H A mem run) W ((κs, (q, (q′, (q″, tt))), tt, a₀, at), tt) (ask r) r (tt, (tt, (tt, (tt, (tt, (tt, (tt, (tt, tt)))))))) (tt, (tt, (tt, (tt, (tt, (tt, (tt, (tt, tt))))))))) $ says ! e $
+      suffices ! _ (ends-at 𝓤 H A f.ended stayed (f.clauses 𝓤 H A mem run) W ((κs, (q, (q′, (q″, tt))), tt, a₀, at), tt) (ask r) r (tt, (tt, (tt, (tt, (tt, (tt, (tt, (tt, tt)))))))) (tt, (tt, (tt, (tt, (tt, (tt, (tt, (tt, tt))))))))) $ tells ! askedTold e $
       nothing ! $ move ! (6 ∷ 0 ∷ []) $ join ! $ move ! (4 ∷ 0 ∷ []) $ join ! $ move ! (2 ∷ 0 ∷ []) $ join ! $ frame ! $
       nothing ! $ owned ! Mat (Is Mat) (mat-makes 𝓤 H A W) b _ is-b $ fjoin ! $ owned ! Wan (Is Wan) (wan-makes 𝓤 H A W) w _ is-w $ fjoin ! $ owned ! Que (Is Que) (que-makes 𝓤 H A W) y _ is-y $ fjoin ! $ owned ! Mem (Is Mem) (mmy-makes 𝓤 H A W) m _ is-m $ fjoin ! $ owned ! usize (Is usize) (uint-makes 𝓤 H A W w64) n _ is-n $ fjoin ! $ move ! (3 ∷ 0 ∷ []) $ fjoin ! $ move ! (2 ∷ 0 ∷ []) $ fjoin ! $ move ! (1 ∷ 0 ∷ []) $ fjoin ! $
       frame ! $ owned ! Ask (Is Ask) (ask-makes 𝓤 H A W) r _ is $ done !

@@ -1,6 +1,9 @@
 -- `lent::open` meets its contract: a walk of its MIR, by hand: straight down. The table is lent again for the call that fills it.
 -- Assumes nothing.
-use Rattle.lent.proofs.Walking.{ℕ, Lft, Share, ftrue, flft, GName, SProp, ent, emp, via, fst∗, Lfts, Fun, givenOf, tables, tablesOf, u8, yes, Is, pointee, owns, RefT, plain, sliceVal, ShrSlice, Room, slice-vals, shr-slice-tells, MutSlice, mut-slice-tells, sliceTy, owned, nothing, Vals, onEntry, Meets, tripleOf, Triple, entered, cited, says, Stays, stay-none-slice, walkOf, goes-none-slice, Walks, ends-at, walked, walk-meets, stay-none, goes-none, stay-slice, goes-slice, Atoms, URA, length, List, [], _∷_, refl, _≡_, named, tyInt, Ty, erased, imm, mut, w8, tyRef, Val, Memory, Routine, Heap, WpFn, Tables, WpFn-mono, FmC, fmOf, Given, ‵, _⊛_, _$_, _∵_, !, qed, by, move, suffices, frame, done, ⋆, keep, split, join, fsplit, fjoin, whole, sub, look-in, agg, look, init, forget, stop, fld, from, load, of-opd, assigns, returns, enter, alloc1, alloc0, params1, pass1, pass0, free1, free0, hop, and-then, no-more, land, addr}
+use Rattle.lent.proofs.Walking.{ℕ, Lft, Share, ftrue, flft, GName, SProp, ent, emp, via, fst∗, Lfts, Fun, givenOf, tables, tablesOf, u8, yes, Is, pointee, owns, RefT, plain, sliceVal, ShrSlice, Room, slice-vals, shr-slice-tells, MutSlice, mut-slice-tells, sliceTy, owned, nothing, Vals, onEntry, Meets, tripleOf, Triple, entered, cited, Stays, stay-none-slice, walkOf, goes-none-slice, Walks, ends-at, walked, walk-meets, stay-none, goes-none, stay-slice, goes-slice, Atoms, URA, length, List, [], _∷_, refl, _≡_, named, tyInt, Ty, erased, imm, mut, w8, tyRef, Val, Memory, Routine, Heap, WpFn, Tables, WpFn-mono, FmC, fmOf, Given, ‵, _⊛_, _$_, _∵_, !, qed, by, move, suffices, frame, done, ⋆, keep, split, join, fsplit, fjoin, whole, sub, look-in, agg, look, init, forget, stop, fld, from, load, of-opd, assigns, returns, enter, alloc1, alloc0, params1, pass1, pass0, free1, free0, hop, and-then, no-more, land, addr}
+use mathlib.Core.Path.{ap}
+use Rattle.opening.specs.Paper.{foundTold}
+use Rattle.lent.proofs.Telling.{says-both}
 use Rattle.segment.specs.declared.Segment.{Segment}
 use Rattle.daf.specs.declared.Family.{Family}
 use Rattle.opening.specs.declared.Plan.{Plan}
@@ -65,7 +68,7 @@ module _ {M : Type 1} (𝓤 : URA M) (H : Heap 𝓤) (A : Atoms 𝓤) (W : Given
   exits : Is Oco (foundIn y) (oco (foundIn y) ∷ []) → ent 𝓤 (⋆ 𝓤 H A (‵ (MutOwn κ γ p o (length ys) (ws)) ∷ ‵ (flft κ q) ∷ ‵ (ShrOwn u8 κ′ k) ∷ ‵ (flft κ′ q′) ∷ [])) (Post (oco (foundIn y)))
   exits is =
       qed W (‵ (MutOwn κ γ p o (length ys) (ws)) ∷ ‵ (flft κ q) ∷ ‵ (ShrOwn u8 κ′ k) ∷ ‵ (flft κ′ q′) ∷ []) ∵
-      suffices ! _ (ends-at 𝓤 H A f.ended stayed (f.clauses 𝓤 H A mem run) W ((κs, (q, (q′, tt)), tt, a, at), tt) (oco (foundIn y)) (foundIn y) (ws, (tt, (tt, tt))) (longs, (tt, (tt, tt)))) $ says ! (found-told f₁ (limitOf (length ys)) (k .now), table-told f₁ (k .now) ys) $
+      suffices ! _ (ends-at 𝓤 H A f.ended stayed (f.clauses 𝓤 H A mem run) W ((κs, (q, (q′, tt)), tt, a, at), tt) (oco (foundIn y)) (foundIn y) (ws, (tt, (tt, tt))) (longs, (tt, (tt, tt)))) $ says-both ! (found-told f₁ (limitOf (length ys)) (k .now), table-told f₁ (k .now) ys) (ap foundTold (found-told f₁ (limitOf (length ys)) (k .now))) $
       nothing ! $ move ! (4 ∷ 0 ∷ []) $ join ! $ move ! (2 ∷ 0 ∷ []) $ join ! $ frame ! $ nothing ! $ owned ! Fam (Is Fam) (fam-makes 𝓤 H A W) f₁ _ is-f₁ $ fjoin ! $ move ! (2 ∷ 0 ∷ []) $ fjoin ! $ move ! (1 ∷ 0 ∷ []) $ fjoin ! $ frame ! $
       owned ! Oco (Is Oco) (oco-makes 𝓤 H A W) (foundIn y) _ is $ done !
 

@@ -1,6 +1,8 @@
 -- `lent::state` meets its contract: a walk of its MIR, by hand: three paths, by whether a test before the choice decides, and by whether there is a forward choice.
 -- Assumes nothing.
-use Rattle.lent.proofs.Walking.{ℕ, _≤_, Lft, Share, ftrue, flft, fat, froom, fdies, SProp, ent, emp, via, fst∗, ltb-true, ltb-false, Lfts, Fun, givenOf, tables, tablesOf, usize, u8, yes, Is, pointee, uint-makes, uint-vals, uint-tells, owns, RefT, plain, sliceVal, ShrSlice, Room, slice-vals, shr-slice-tells, sliceTy, owned, nothing, Vals, onEntry, Meets, tripleOf, Triple, entered, cited, says, Stays, stay-none-slice, walkOf, goes-none-slice, Walks, ends-at, walked, walk-meets, stay-none, goes-none, Atoms, fullShare, URA, ltb, length, Bool, true, false, List, [], _∷_, refl, _≡_, named, w64, tyInt, tyBool, Ty, imm, w8, tyRef, Val, vint, vbool, lt-of-lt-of-le, Memory, Routine, Heap, WpFn, Tables, Env, WpFn-mono, FmC, fmOf, Given, ‵, _⊛_, _$_, _∵_, !, qed, by, move, suffices, frame, done, ⋆, keep, split, join, rewrite, fsplit, fjoin, Item, Sq, runs, atRet, frees, prop, look, init, forget, stop, from, load, assigns, returns, enter, alloc1, alloc0, params1, pass1, pass0, free1, free0, bin, and-then, no-more, land, first, exec, branches, skips, returns-within}
+use Rattle.lent.proofs.Walking.{ℕ, _≤_, Lft, Share, ftrue, flft, fat, froom, fdies, SProp, ent, emp, via, fst∗, ltb-true, ltb-false, Lfts, Fun, givenOf, tables, tablesOf, usize, u8, yes, Is, pointee, uint-makes, uint-vals, uint-tells, owns, RefT, plain, sliceVal, ShrSlice, Room, slice-vals, shr-slice-tells, sliceTy, owned, nothing, Vals, onEntry, Meets, tripleOf, Triple, entered, cited, Stays, stay-none-slice, walkOf, goes-none-slice, Walks, ends-at, walked, walk-meets, stay-none, goes-none, Atoms, fullShare, URA, ltb, length, Bool, true, false, List, [], _∷_, refl, _≡_, named, w64, tyInt, tyBool, Ty, imm, w8, tyRef, Val, vint, vbool, lt-of-lt-of-le, Memory, Routine, Heap, WpFn, Tables, Env, WpFn-mono, FmC, fmOf, Given, ‵, _⊛_, _$_, _∵_, !, qed, by, move, suffices, frame, done, ⋆, keep, split, join, rewrite, fsplit, fjoin, Item, Sq, runs, atRet, frees, prop, look, init, forget, stop, from, load, assigns, returns, enter, alloc1, alloc0, params1, pass1, pass0, free1, free0, bin, and-then, no-more, land, first, exec, branches, skips, returns-within}
+use Rattle.spk.specs.Paper.{askedTold}
+use Rattle.lent.proofs.Telling.{tells}
 use Rattle.segment.specs.declared.Segment.{Segment}
 use Rattle.spk.specs.declared.Asked.{Asked}
 use Rattle.table.specs.declared.Choice.{Choice}
@@ -86,7 +88,7 @@ module _ {M : Type 1} (𝓤 : URA M) (H : Heap 𝓤) (A : Atoms 𝓤) (W : Given
   exits : (r : Asked) → r ≡ asking.asked (limitOf (length (t .now))) (evaluated Spk (k .now)) (t .now) n m x → Is Ask r (ask r ∷ []) → ent 𝓤 (⋆ 𝓤 H A (‵ (ShrOwn u8 κ k) ∷ ‵ (flft κ q) ∷ ‵ (ShrOwn Seg κ′ t) ∷ ‵ (flft κ′ q′) ∷ [])) (Post (ask r))
   exits r e is =
       qed W (‵ (ShrOwn u8 κ k) ∷ ‵ (flft κ q) ∷ ‵ (ShrOwn Seg κ′ t) ∷ ‵ (flft κ′ q′) ∷ []) ∵
-      suffices ! _ (ends-at 𝓤 H A f.ended stayed (f.clauses 𝓤 H A mem run) W ((κs, (q, (q′, tt)), tt, a₀, at), tt) (ask r) r (tt, (tt, (tt, (tt, (tt, tt))))) (tt, (tt, (tt, (tt, (tt, tt)))))) $ says ! e $
+      suffices ! _ (ends-at 𝓤 H A f.ended stayed (f.clauses 𝓤 H A mem run) W ((κs, (q, (q′, tt)), tt, a₀, at), tt) (ask r) r (tt, (tt, (tt, (tt, (tt, tt))))) (tt, (tt, (tt, (tt, (tt, tt)))))) $ tells ! askedTold e $
       nothing ! $ move ! (4 ∷ 0 ∷ []) $ join ! $ move ! (2 ∷ 0 ∷ []) $ join ! $ frame ! $
       nothing ! $ owned ! Que (Is Que) (que-makes 𝓤 H A W) x _ is-x $ fjoin ! $ owned ! Mem (Is Mem) (mmy-makes 𝓤 H A W) m _ is-m $ fjoin ! $ owned ! usize (Is usize) (uint-makes 𝓤 H A W w64) n _ is-n $ fjoin ! $ move ! (2 ∷ 0 ∷ []) $ fjoin ! $ move ! (1 ∷ 0 ∷ []) $ fjoin ! $
       frame ! $ owned ! Ask (Is Ask) (ask-makes 𝓤 H A W) r _ is $ done !

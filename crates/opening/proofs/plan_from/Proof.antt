@@ -37,7 +37,7 @@ cast-t12 : tie.Need-cast-t12 Inv-loop μ-loop
 cast-t12 c = let h = below (c .before .before .before .before .before .before .before .before .args .family) (now (c .before .before .before .before .before .before .before .before .args .kernel)) _ _ _ (c .before .before .before .before .before .loop .inv) (c .before .before .before .before .loop-test .taken) in omega arith
 
 returns : tie.Need-returns Inv-loop μ-loop
-returns c = judged-bad (c .before .before .before .before .before .before .before .before .args .family) (now (c .before .before .before .before .before .before .before .before .args .kernel)) _ _ _ (c .before .before .before .before .before .loop .inv) (c .before .before .before .before .loop-test .taken) (ap (judged (c .before .before .before .before .before .before .before .before .args .family) (now (c .before .before .before .before .before .before .before .before .args .kernel))) (sym (c .before .before .before .summary-at .ensures)) ∙ sym (c .before .before .judge .ensures) ∙ c .enum-told2 .given .1)
+returns c = judged-bad (c .before .before .before .before .before .before .before .before .args .family) (now (c .before .before .before .before .before .before .before .before .args .kernel)) _ _ _ (c .before .before .before .before .before .loop .inv) (c .before .before .before .before .loop-test .taken) (ap (judged (c .before .before .before .before .before .before .before .before .args .family) (now (c .before .before .before .before .before .before .before .before .args .kernel))) (sym (c .before .before .before .summary-at .ensures)) ∙ sym (c .before .before .judge .ensures .0) ∙ c .enum-told2 .given .1)
 
 next-requires : tie.Need-next-requires Inv-loop μ-loop
 next-requires c κs = (c .before .before .before .before .before .loop .inv .stands, here (c .before .before .before .before .before .before .before .before .args .family) (now (c .before .before .before .before .before .before .before .before .args .kernel)) _ _ _ (c .before .before .before .before .before .loop .inv) (c .before .before .before .before .loop-test .taken))
@@ -49,7 +49,7 @@ loop-less : tie.Need-loop-less Inv-loop μ-loop
 loop-less c = omega arith
 
 loop-again : tie.Need-loop-again Inv-loop μ-loop
-loop-again c = judged-on (c .before .before .before .before .before .before .before .before .before .args .family) (now (c .before .before .before .before .before .before .before .before .before .args .kernel)) _ _ _ (c .before .before .before .before .before .before .loop .inv) (c .before .before .before .before .before .loop-test .taken) _ _ (ap (judged (c .before .before .before .before .before .before .before .before .before .args .family) (now (c .before .before .before .before .before .before .before .before .before .args .kernel))) (sym (c .before .before .before .before .summary-at .ensures)) ∙ sym (c .before .before .before .judge .ensures) ∙ c .before .enum-told .given .1) (c .next .ensures)
+loop-again c = judged-on (c .before .before .before .before .before .before .before .before .before .args .family) (now (c .before .before .before .before .before .before .before .before .before .args .kernel)) _ _ _ (c .before .before .before .before .before .before .loop .inv) (c .before .before .before .before .before .loop-test .taken) _ _ (ap (judged (c .before .before .before .before .before .before .before .before .before .args .family) (now (c .before .before .before .before .before .before .before .before .before .args .kernel))) (sym (c .before .before .before .before .summary-at .ensures)) ∙ sym (c .before .before .before .judge .ensures .0) ∙ c .before .enum-told .given .1) (c .next .ensures)
 
 returns-2 : tie.Need-returns-2 Inv-loop μ-loop
 returns-2 c = judged-all _ _ _ _ _ (c .before .before .before .before .args .limit) (c .before .before .before .before .args .d) _ (c .before .loop .inv) (c .loop-test .left) (c .before .before .before .before .pre .1) (c .before .before .start .ensures)

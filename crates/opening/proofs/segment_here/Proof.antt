@@ -20,10 +20,10 @@ enum-told : tie.Need-enum-told
 enum-told c = search needs
 
 returns : tie.Need-returns
-returns c = here-as _ _ _ _ (ap (judged (c .before .before .before .before .before .before .args .family) (now (c .before .before .before .before .before .before .args .kernel))) (sym (c .before .before .before .before .summary-at .ensures)) ∙ sym (c .before .before .before .judge .ensures) ∙ c .before .judged .given .1)
+returns c = here-as _ _ _ _ (ap (judged (c .before .before .before .before .before .before .args .family) (now (c .before .before .before .before .before .before .args .kernel))) (sym (c .before .before .before .before .summary-at .ensures)) ∙ sym (c .before .before .before .judge .ensures .0) ∙ c .before .judged .given .1)
 
 returns-2 : tie.Need-returns-2
-returns-2 c = here-as _ _ _ _ (ap (judged (c .before .before .before .before .before .args .family) (now (c .before .before .before .before .before .args .kernel))) (sym (c .before .before .before .summary-at .ensures)) ∙ sym (c .before .before .judge .ensures) ∙ c .enum-told .given .1)
+returns-2 c = here-as _ _ _ _ (ap (judged (c .before .before .before .before .before .args .family) (now (c .before .before .before .before .before .args .kernel))) (sym (c .before .before .before .summary-at .ensures)) ∙ sym (c .before .before .judge .ensures .0) ∙ c .enum-told .given .1)
 
 pub segment-here-spec : {M : Type 1} → statement M
 segment-here-spec = tie.close (tie.spec summary-at-requires judge-requires enum-known-judged enum-told returns returns-2)

@@ -1,9 +1,11 @@
 -- `owned::open` meets its contract: the plan can be carried out, and what it comes to is the definition's. Assumes nothing.
 use mathlib.Core.Path.{_∙_, ap, sym, subst}
 use denote.Ref.{now}
+use Rattle.refusal.proofs.Told.{in-numbers}
 use Rattle.table.specs.Places.{tableLimit, emptyPlaces}
 use Rattle.opening.specs.declared.Plan.{Plan}
 use Rattle.opening.specs.Planning.{Fits, carriedOut}
+use Rattle.opening.specs.Paper.{openedTold}
 use Rattle.opening.proofs.Planned.{plan-ready}
 use Rattle.owned.specs.Owned.{openedBy}
 use Rattle.owned.proofs.Owning.{opened-told}
@@ -20,9 +22,10 @@ open-by-requires c κs = let a = c .before .before .args in subst (Fits tableLim
 returns : tie.Need-returns
 returns c =
     let a = c .before .before .before .args in
-    c .open-by .ensures
+    in-numbers openedTold
+    (c .open-by .ensures
     ∙ ap (λ (p : Plan). openedBy p (carriedOut (a .family) (now (a .kernel)) p (emptyPlaces tableLimit))) (c .before .plan-of .ensures)
-    ∙ opened-told (a .family) (now (a .kernel))
+    ∙ opened-told (a .family) (now (a .kernel)))
 
 pub open-spec : {M : Type 1} → statement M
 open-spec = tie.close (tie.spec plan-of-requires open-by-requires returns)

@@ -1,6 +1,8 @@
 -- `owned::state_in` meets its contract: a walk of its MIR, by hand: the table's array is lent to `lent`'s function, and taken back.
 -- Assumes nothing.
-use Rattle.lent.proofs.Walking.{ℕ, Lft, Share, ftrue, flft, fat, SProp, ent, emp, via, fst∗, Lfts, Fun, givenOf, tables, tablesOf, u8, yes, Is, pointee, owns, RefT, plain, sliceVal, ShrSlice, Room, slice-vals, shr-slice-tells, sliceTy, owned, nothing, Vals, onEntry, Meets, tripleOf, Triple, entered, cited, says, Stays, stay-none-slice, walkOf, goes-none-slice, Walks, ends-at, walked, walk-meets, stay-none, goes-none, Atoms, fullShare, URA, lit<, length, List, [], _∷_, refl, sym, ap, subst, _≡_, named, erased, imm, tyRef, Val, Memory, Routine, Heap, WpFn, Tables, WpFn-mono, FmC, fmOf, Given, ‵, _⊛_, _$_, _∵_, !, qed, by, move, suffices, frame, done, ⋆, keep, split, join, rewrite, fsplit, fjoin, agg, look, init, forget, stop, from, load, of-opd, assigns, returns, enter, alloc1, alloc0, params1, pass1, pass0, free1, free0, lit, and-then, no-more, land, addr}
+use Rattle.lent.proofs.Walking.{ℕ, Lft, Share, ftrue, flft, fat, SProp, ent, emp, via, fst∗, Lfts, Fun, givenOf, tables, tablesOf, u8, yes, Is, pointee, owns, RefT, plain, sliceVal, ShrSlice, Room, slice-vals, shr-slice-tells, sliceTy, owned, nothing, Vals, onEntry, Meets, tripleOf, Triple, entered, cited, Stays, stay-none-slice, walkOf, goes-none-slice, Walks, ends-at, walked, walk-meets, stay-none, goes-none, Atoms, fullShare, URA, lit<, length, List, [], _∷_, refl, sym, ap, subst, _≡_, named, erased, imm, tyRef, Val, Memory, Routine, Heap, WpFn, Tables, WpFn-mono, FmC, fmOf, Given, ‵, _⊛_, _$_, _∵_, !, qed, by, move, suffices, frame, done, ⋆, keep, split, join, rewrite, fsplit, fjoin, agg, look, init, forget, stop, from, load, of-opd, assigns, returns, enter, alloc1, alloc0, params1, pass1, pass0, free1, free0, lit, and-then, no-more, land, addr}
+use Rattle.spk.specs.Paper.{askedTold}
+use Rattle.lent.proofs.Telling.{tells}
 use Rattle.spk.specs.declared.Asked.{Asked}
 use Rattle.spk.specs.declared.Memory.{Memory as Remembered}
 use Rattle.spk.specs.declared.Question.{Question}
@@ -59,7 +61,7 @@ module _ {M : Type 1} (𝓤 : URA M) (H : Heap 𝓤) (A : Atoms 𝓤) (W : Given
   exits : (r : Asked) → r ≡ askedIn tableLimit (evaluated Spk (k .now)) (g .segments) (g .count) m x w b → Is Ask r (ask r ∷ []) → ent 𝓤 (⋆ 𝓤 H A (‵ (ShrOwn u8 κ k) ∷ ‵ (flft κ q) ∷ [])) (Post (ask r))
   exits r e is =
       qed W (‵ (ShrOwn u8 κ k) ∷ ‵ (flft κ q) ∷ []) ∵
-      suffices ! _ (ends-at 𝓤 H A f.ended stayed (f.clauses 𝓤 H A mem run) W ((κs, (q, tt), tt, a₀, at), tt) (ask r) r (tt, (tt, (tt, (tt, (tt, (tt, tt)))))) (tt, (tt, (tt, (tt, (tt, (tt, tt))))))) $ says ! e $
+      suffices ! _ (ends-at 𝓤 H A f.ended stayed (f.clauses 𝓤 H A mem run) W ((κs, (q, tt), tt, a₀, at), tt) (ask r) r (tt, (tt, (tt, (tt, (tt, (tt, tt)))))) (tt, (tt, (tt, (tt, (tt, (tt, tt))))))) $ tells ! askedTold e $
       nothing ! $ move ! (2 ∷ 0 ∷ []) $ join ! $ frame ! $
       nothing ! $ owned ! Mat (Is Mat) (mat-makes 𝓤 H A W) b _ is-b $ fjoin ! $ owned ! Wan (Is Wan) (wan-makes 𝓤 H A W) w _ is-w $ fjoin ! $ owned ! Que (Is Que) (que-makes 𝓤 H A W) x _ is-x $ fjoin ! $ owned ! Mem (Is Mem) (mmy-makes 𝓤 H A W) m _ is-m $ fjoin ! $ owned ! Tbl (Is Tbl) (tbl-makes 𝓤 H A W) g _ is-g $ fjoin ! $ move ! (1 ∷ 0 ∷ []) $ fjoin ! $
       frame ! $ owned ! Ask (Is Ask) (ask-makes 𝓤 H A W) r _ is $ done !

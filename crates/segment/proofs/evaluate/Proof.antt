@@ -5,9 +5,11 @@ use native.Mathlib.Omega.{arith}
 use lib.ListN.{length}
 use denote.Ref.{now}
 use borrow.Author.Needs.{needs}
+use Rattle.refusal.proofs.Told.{in-numbers}
 use Rattle.cheby.specs.Cheby.{recordFor}
 use Rattle.cheby.proofs.Record.{refused-where}
 use Rattle.segment.specs.Kinds.{kindWith}
+use Rattle.segment.specs.Paper.{evaluatedTold}
 use Rattle.segment.specs.declared.Form.the-variants.{Two, Three}
 use Rattle.segment.proofs.Tests.{is-type}
 use Rattle.segment.proofs.Forms.{form-two}
@@ -91,8 +93,9 @@ returns : tie.Need-returns
 returns c =
     let read = c .before .before in
     let start = read .before in
-    two-refused _ (start .start-of .result) _ _ _ _ _ _ _ _ (read .plain-byte .ensures) refl (refused-where _ _ _ _ (sym (c .before .no-radius .ensures) ∙ c .if3 .taken))
-    ∙ fits-two (start .before) .behind (start .start-of .result) _ _ (start .start-of .ensures .0)
+    in-numbers evaluatedTold
+    (two-refused _ (start .start-of .result) _ _ _ _ _ _ _ _ (read .plain-byte .ensures) refl (refused-where _ _ _ _ (sym (c .before .no-radius .ensures) ∙ c .if3 .taken))
+    ∙ fits-two (start .before) .behind (start .start-of .result) _ _ (start .start-of .ensures .0))
 
 plain-coefficients-requires : tie.Need-plain-coefficients-requires
 plain-coefficients-requires c κs =
@@ -108,14 +111,15 @@ returns-2 : tie.Need-returns-2
 returns-2 c =
     let read = c .before .before .before .before in
     let start = read .before in
-    two-answered _ (start .start-of .result) _ _ _ _ _ _ _ _ (read .plain-byte .ensures) _ (c .before .plain-coefficients .ensures) (sym (c .state2-at .ensures))
-    ∙ fits-two (start .before) .behind (start .start-of .result) _ _ (start .start-of .ensures .0)
+    in-numbers evaluatedTold
+    (two-answered _ (start .start-of .result) _ _ _ _ _ _ _ _ (read .plain-byte .ensures) _ (c .before .plain-coefficients .ensures) (sym (c .state2-at .ensures))
+    ∙ fits-two (start .before) .behind (start .start-of .result) _ _ (start .start-of .ensures .0))
 
 evaluate-any-requires : tie.Need-evaluate-any-requires
 evaluate-any-requires c κs = search needs
 
 returns-3 : tie.Need-returns-3
-returns-3 c = search needs
+returns-3 c = in-numbers evaluatedTold (search needs)
 
 enum-known-kind-2 : tie.Need-enum-known-kind-2
 enum-known-kind-2 c = search needs
@@ -149,14 +153,15 @@ returns-4 : tie.Need-returns-4
 returns-4 c =
     let read = c .before .before in
     let start = read .before in
-    three-answered _ (start .start-of2 .result) _ _ _ _ _ _ _ _ (read .plain-byte2 .ensures) _ (c .before .plain-coefficients2 .ensures) (c .state3-at .ensures)
-    ∙ fits-three (start .before) .behind (start .start-of2 .result) _ _ (start .start-of2 .ensures .0)
+    in-numbers evaluatedTold
+    (three-answered _ (start .start-of2 .result) _ _ _ _ _ _ _ _ (read .plain-byte2 .ensures) _ (c .before .plain-coefficients2 .ensures) (c .state3-at .ensures)
+    ∙ fits-three (start .before) .behind (start .start-of2 .result) _ _ (start .start-of2 .ensures .0))
 
 evaluate-any-requires-2 : tie.Need-evaluate-any-requires-2
 evaluate-any-requires-2 c κs = search needs
 
 returns-5 : tie.Need-returns-5
-returns-5 c = search needs
+returns-5 c = in-numbers evaluatedTold (search needs)
 
 pub evaluate-spec : {M : Type 1} → statement M
 evaluate-spec =

@@ -1,12 +1,19 @@
 -- `segment::judge` meets its contract, an answer for each finding. Assumes nothing.
 use Rattle.segment.proofs.Judging.{judged-malformed, judged-accepted}
+use Rattle.segment.specs.declared.Judged.{Judged}
 use Rattle.segment.specs.declared.Judged.the-variants.{Accepted}
 use Rattle.segment.specs.declared.Kind.the-variants.{Unsupported}
 use Rattle.segment.specs.Malformed.{found}
-use mathlib.Core.Path.{sym, ap, _∙_}
+use Rattle.segment.specs.Paper.{judgedTold}
+use Prim.Native.Nat.{ℕ}
+use mathlib.Core.Path.{_≡_, sym, ap, _∙_}
 use borrow.Author.Needs.{needs}
 use Rattle.segment.proofs.judge.Statement.{statement}
 use Rattle.segment.proofs.judge.Tie as tie
+
+-- in the paper's numbers too, whatever number the segment has
+in-numbers : {x y : Judged} → x ≡ y → (x ≡ y) × ((i : ℕ) → judgedTold i x ≡ judgedTold i y)
+in-numbers e = (e, λ i. ap (judgedTold i) e)
 
 segment-with-requires : tie.Need-segment-with-requires
 segment-with-requires c κs = search needs
@@ -25,13 +32,15 @@ segment-with-requires-2 c κs = search needs
 
 returns : tie.Need-returns
 returns c =
-    judged-malformed _ _ _ _ Unsupported
-    (ap (found _ _) (sym (c .before .before .before .segment-with .ensures)) ∙ sym (c .before .before .find .ensures) ∙ c .enum-told .given .1)
+    in-numbers
+    (judged-malformed _ _ _ _ Unsupported
+    (ap (found _ _) (sym (c .before .before .before .segment-with .ensures)) ∙ sym (c .before .before .find .ensures) ∙ c .enum-told .given .1))
 
 returns-2 : tie.Need-returns-2
 returns-2 c =
-    ap Accepted (c .segment-with2 .ensures)
-    ∙ judged-accepted _ _ _ _ _ (ap (found _ _) (sym (c .before .before .before .before .before .segment-with .ensures)) ∙ sym (c .before .before .before .before .find .ensures) ∙ c .before .before .found .given .1)
+    in-numbers
+    (ap Accepted (c .segment-with2 .ensures)
+    ∙ judged-accepted _ _ _ _ _ (ap (found _ _) (sym (c .before .before .before .before .before .segment-with .ensures)) ∙ sym (c .before .before .before .before .find .ensures) ∙ c .before .before .found .given .1))
 
 pub judge-spec : {M : Type 1} → statement M
 judge-spec =

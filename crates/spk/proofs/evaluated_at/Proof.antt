@@ -15,7 +15,7 @@ settled-requires : tie.Need-settled-requires
 settled-requires c κs = search needs
 
 returns : tie.Need-returns
-returns c = c .settled .ensures ∙ ap (settled _) (c .before .evaluate .ensures)
+returns c = c .settled .ensures ∙ ap (settled _) (c .before .evaluate .ensures .0)
 
 pub evaluated-at-spec : {M : Type 1} → statement M
 evaluated-at-spec = tie.close (tie.spec cast-evaluate evaluate-requires settled-requires returns)

@@ -18,7 +18,7 @@ settled-requires : tie.Need-settled-requires
 settled-requires c κs = search needs
 
 returns : tie.Need-returns
-returns c = c .settled .ensures ∙ ap (settled _) (c .before .negated .ensures ∙ ap negatedOf (c .before .before .evaluate .ensures))
+returns c = c .settled .ensures ∙ ap (settled _) (c .before .negated .ensures ∙ ap negatedOf (c .before .before .evaluate .ensures .0))
 
 pub reversed-spec : {M : Type 1} → statement M
 reversed-spec =

@@ -1,0 +1,2 @@
+-- What it means that a contract leaves no choice.
+pub mod Promised

@@ -1,0 +1,20 @@
+-- An evaluation is told whole in the paper's numbers: two that are told alike are one. Assumes nothing.
+use mathlib.Core.Path.{_≡_, refl, ap, _∙_}
+use mathlib.Core.Bool.{Bool, cond}
+use lib.Dec.{eqb}
+use Rattle.frame.specs.State.{zeroState}
+use Rattle.refusal.specs.Paper.{refusedBy}
+use Rattle.refusal.proofs.Told.{told-back, refusalOf, refusal-of, not-0}
+use Rattle.segment.specs.declared.Evaluated.{Evaluated}
+use Rattle.segment.specs.declared.Evaluated.the-variants.{State, Refused}
+use Rattle.segment.specs.Paper.{Told, evaluatedTold}
+
+abbrev evaluatedOf : Told → Evaluated
+evaluatedOf t = cond (eqb (t .paper .number) 0) (State (t .six)) (Refused (refusalOf (t .paper)))
+
+evaluated-of : (e : Evaluated) → evaluatedOf (evaluatedTold e) ≡ e
+evaluated-of (State s) = refl
+evaluated-of (Refused r) = ap (λ (b : Bool). cond b (State zeroState) (Refused (refusalOf (refusedBy r)))) (not-0 r) ∙ ap Refused (refusal-of r)
+
+pub one-evaluation : (e e' : Evaluated) → evaluatedTold e ≡ evaluatedTold e' → e ≡ e'
+one-evaluation = told-back evaluatedTold evaluatedOf evaluated-of

@@ -1,0 +1,83 @@
+#!/usr/bin/env python3
+"""Adds to what crates/cases is run on: segments of a PCK by their numbers, with the lines of the second program.
+
+data/alone.cases: blocks of kind 4 (tests/oracle/stored.py describes a block). The kernel is that of orient.py: every segment is asked, covering or
+not, and numbers that no segment has; then with the table of another kernel, whose trailers differ or which is shorter; then what is refused before
+any question. Run it behind stored.py, whose lines the second program must give too.
+"""
+import os
+import struct
+import sys
+
+HERE = os.path.dirname(os.path.abspath(__file__))
+sys.path[0:0] = [HERE, os.path.join(HERE, "..", "second"), os.path.join(HERE, "..", "oracle")]
+import cases  # noqa: E402
+import orient  # noqa: E402
+
+NAN, INF = float("nan"), float("inf")
+NAME = "alone.cases"
+
+
+def record(number, et):
+    return b"\xa5\x5d" + struct.pack("<Id", number, et)
+
+
+def block(kernel, asked, origin=b""):
+    return struct.pack("<4I", 4, len(origin), len(kernel), len(asked)) + origin + kernel + asked
+
+
+def questions():
+    count = len(list(orient.segments()))
+    epochs = (-1e9, -10.0, -0.0, 0.0, 0.999, 1.0, 1.25, 1.5, 5e-324, 2.5, 9.999999999999998, 10.0, 13.0, 20.000000000000004, 1e300, INF, -INF, NAN)
+    asked = [record(i, et) for i in range(count) for et in epochs]
+    return b"".join(asked + [record(i, et) for i in (count, 255, 256, 4096, 2**31, 2**32 - 1) for et in (0.0, NAN)])
+
+
+def blocks():
+    kernel, asked = orient.kernel(), questions()
+    yield block(kernel, asked)
+    other = bytearray(kernel)
+    for start, doubles in places():
+        # another INIT in every second segment, another coefficient in the others
+        at = 8 * (start + len(doubles) - 4 - 1) if start % 2 else 8 * (start + 2 - 1)
+        other[at : at + 8] = struct.pack("<d", 0.75)
+    yield block(bytes(other), asked, kernel)
+    yield block(kernel[: 8 * (places()[2][0] + 3)], asked, kernel)
+    yield block(kernel[:1023], asked)
+    yield block(kernel.replace(b"DAF/PCK ", b"NAIF/DAF", 1), asked)
+    yield block(kernel, asked + b"\xa5")
+    yield block(kernel, asked.replace(b"\xa5\x5d", b"\xa5\x5c", 1))
+
+
+def places():
+    """First address and doubles of the segments that have data."""
+    found, start = [], 385
+    for *_, doubles in orient.segments():
+        if doubles:
+            found.append((start, doubles))
+        start += len(doubles)
+    return found
+
+
+def main(folder):
+    with open(os.path.join(folder, "data", NAME), "wb") as f:
+        f.write(b"".join(blocks()))
+    with open(os.path.join(folder, "args")) as f:
+        names = [name for name in f.read().split() if name != NAME]
+    with open(os.path.join(folder, "stdout")) as f:
+        stored = f.read().splitlines()
+    lines, behind = [], 0
+    for name in names + [NAME]:
+        behind = len(lines)
+        with open(os.path.join(folder, "data", name), "rb") as f:
+            lines += [line for b in cases.blocks(f.read()) for line in cases.block_lines(*b)]
+    if lines[:behind] != stored[:behind]:
+        sys.exit("the stored lines are others")
+    for name, written in (("args", names + [NAME]), ("stdout", lines)):
+        with open(os.path.join(folder, name), "w") as f:
+            f.write("".join(text + "\n" for text in written))
+    print(behind, "lines before,", len(lines) - behind, "added")
+
+
+if __name__ == "__main__":
+    main(*(sys.argv[1:] or ["crates/cases"]))
