@@ -1,5 +1,6 @@
 #!/usr/bin/env python3
-"""Writes what crates/places is run on and what it must write: kernels of 0 to 4,097 summaries, and a model of a table that is lent to two openings.
+"""Writes what crates/places is run on and what it must write: kernels of 0 to 4,097 summaries, and a model of a table that is lent to two openings; then
+openings by value, which remember nothing.
 
 Kernel c's segment i has target i + 1, center 0, type 1, which is none that is handled, no data, and the last epoch 10,000 c + i + 1: no two kernels have
 an epoch in common, so that a place which an opening wrote, cleared or left shows in the sum. Summary records follow each other; what stands where names
@@ -14,6 +15,8 @@ KERNELS = [("none", 0), ("one", 1), ("some", 256), ("more", 257), ("most", 4096)
 PLACES = (0, 256, 257, 4096, 4097)
 PAIRS = [(1, 1), (1, 2), (2, 1), (4, 2), (4, 3), (3, 4), (6, 2), (6, 5), (5, 6), (5, 2)]  # by number, from 1
 LIMIT = 4096
+OWNED = 256  # the places of a table by value
+BY_VALUE = (1, 2, 3, 4)
 
 
 def epochs(c):
@@ -66,6 +69,9 @@ def lines():
                 total += (i + 1.0) * last
             answers = [asked(places, count) for count in (n, places + 1, LIMIT + 1)]
             yield " ".join(map(str, [places, came, then, struct.pack(">d", total).hex()] + answers)) + "\n"
+    for c in BY_VALUE:
+        came, n = opened([0.0] * OWNED, c)
+        yield f"value {came} 0 {asked(OWNED, n)}\n"
 
 
 def main():

@@ -2,12 +2,16 @@
 // 256, 257, 4,096 and 4,097 places that it lends. For each pair and table it writes: the places; what each opening came to, the number of segments
 // or the refusal's; the sum of all places' last epochs, each times its place's number from 1, as bits, so that a place which was written or
 // cleared shows; and what a question comes to with the count, with one more than the places, and with 4,097: the refusal's number, or 0.
+// Then, with the table by value, for each kernel that 256 places take and one that they don't: what its opening came to; what it remembers, 0 for
+// nothing; and what a question comes to with that memory.
 ghost use mathlib.Core.Path.{_≡_};
 ghost use Prim.Native.Nat.{_≤_};
 ghost use lib.ListN.{length};
 ghost use Rattle.daf.specs.declared.Family.the-variants.{Spk};
 ghost use Rattle.spk.specs.declared.Memory.the-variants.{Blank};
 use daf::Family;
+use opening::Opened;
+use opening::Outcome;
 use opening::Plan;
 use segment::Segment;
 use spk::Asked;
@@ -147,6 +151,39 @@ fn tell(kernel: &[u8], table: &[Segment], p: Plan, q: Plan) {
     write_line(places, p, q, sum, a, b, c);
 }
 
+// ---- by value
+
+// The number of segments, or of the refusal.
+fn opened_to(o: Opened) -> usize {
+    let outcome = o.outcome;
+    match outcome {
+        Outcome::Accepted => o.table.count,
+        Outcome::Refused(refusal) => refusal.number() as usize,
+    }
+}
+
+// 0 where nothing is remembered.
+fn remembered(m: Memory) -> u64 {
+    match m {
+        Memory::Blank => 0,
+        Memory::Kept(_) => 1,
+    }
+}
+
+// Writes what an opening by value came to.
+fn tell_owned(kernel: &[u8]) {
+    let o = owned::open_spk(kernel);
+    let opened = o.opened;
+    let memory = o.memory;
+    let table = opened.table;
+    let a = owned::state(kernel, table, memory, question());
+    io::write_all(1, b"value");
+    write_number(opened_to(opened) as u64);
+    write_number(remembered(memory));
+    write_number(refused_by(a) as u64);
+    io::write_all(1, b"\n");
+}
+
 // ---- the tables
 
 fn lend_0(first: &[u8], second: &[u8]) {
@@ -236,6 +273,15 @@ fn pair(i: usize, j: usize) {
     }
 }
 
+// Opens kernel i by value.
+fn one(i: usize) {
+    let mut buf = [0u8; ROOM];
+    let input = streams::read_argument(i, b"KERNEL", &mut buf);
+    if let Input::Bytes(n) = input {
+        tell_owned(&buf[..n]);
+    }
+}
+
 fn main() {
     if os::arg_count() != 7 {
         streams::complain(b"usage: places NONE ONE SOME MORE MOST MANY\n");
@@ -251,4 +297,8 @@ fn main() {
     pair(6, 5);
     pair(5, 6);
     pair(5, 2);
+    one(1);
+    one(2);
+    one(3);
+    one(4);
 }
