@@ -1,5 +1,6 @@
 #!/bin/sh
-# Lists the segments of the sample kernel and answers its questions, with a matrix and without; proves and builds the two programs if they are missing.
+# Lists the segments of the sample kernel and answers its questions, without a matrix and with one, in words and decimals with the exact bits beside
+# them (tools/readable.py); proves and builds the two programs if they are missing. Without python3 the programs' lines are shown as they are.
 set -eu
 cd "$(dirname "$0")"
 
@@ -12,11 +13,31 @@ if [ ! -x target/bin/listing ] || [ ! -x target/bin/ask ]; then
   rt check listing ask >&2
 fi
 run=$(tests/emulator.sh)
+kernel=tests/sample/de405.bsp questions=tests/sample/de405.questions matrix=tests/sample/eclipj2000.matrix
+lines=$(mktemp)
+trap 'rm -f "$lines"' EXIT
 
-sample=tests/sample
-echo '$ listing <'$sample/de405.bsp
-$run target/bin/listing <$sample/de405.bsp
-echo '$ ask' $sample/de405.bsp $sample/de405.questions
-$run target/bin/ask $sample/de405.bsp $sample/de405.questions
-echo '$ ask' $sample/de405.bsp $sample/de405.questions $sample/eclipj2000.matrix
-$run target/bin/ask $sample/de405.bsp $sample/de405.questions $sample/eclipj2000.matrix
+# Shows the lines that a program wrote: show COMMAND WORDS, the words being for tools/readable.py.
+show() {
+  command=$1
+  shift
+  if command -v python3 >/dev/null; then
+    echo "\$ $command | tools/readable.py $*"
+    python3 tools/readable.py "$@" "$lines"
+  else
+    echo "\$ $command"
+    cat "$lines"
+  fi
+  echo
+}
+
+command -v python3 >/dev/null || echo "There is no python3 here to put the lines into words and decimals: they are shown as the programs write them."
+
+$run target/bin/listing <$kernel >"$lines"
+show "listing <$kernel"
+
+$run target/bin/ask $kernel $questions >"$lines"
+show "ask $kernel $questions" --questions $questions
+
+$run target/bin/ask $kernel $questions $matrix >"$lines"
+show "ask $kernel $questions $matrix" --questions $questions --frame ECLIPJ2000

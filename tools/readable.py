@@ -134,7 +134,7 @@ def date_of(epoch):
 
 
 def moment(epoch):
-    return f"{date_of(epoch)} ({epoch!r} s past J2000)"
+    return f"{date_of(epoch)} ({epoch!r} s past J2000)" if math.isfinite(epoch) else f"epoch {epoch!r}"
 
 
 # ---- questions
