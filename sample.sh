@@ -22,7 +22,7 @@ show() {
   command=$1
   shift
   if command -v python3 >/dev/null; then
-    echo "\$ $command | tools/readable.py $*"
+    echo "\$ $command | tools/readable.py${*:+ $*}"
     python3 tools/readable.py "$@" "$lines"
   else
     echo "\$ $command"
