@@ -31,7 +31,12 @@ show() {
   echo
 }
 
-command -v python3 >/dev/null || echo "There is no python3 here to put the lines into words and decimals: they are shown as the programs write them."
+if command -v python3 >/dev/null; then
+  echo "The programs are proved; tools/readable.py, which puts their lines into words and decimals, is not. The bits stand as the programs wrote them."
+else
+  echo "There is no python3 here to put the lines into words and decimals: they are shown as the programs write them."
+fi
+echo
 
 $run target/bin/listing <$kernel >"$lines"
 show "listing <$kernel"

@@ -1,5 +1,5 @@
 #!/usr/bin/env bash
-# native.sh OUT: our program `measure` compiled for the machine at hand, so that its times mean something. On x86-64 that is the proved program
+# native.sh OUT: our program `replay_measure` compiled for the machine at hand, so that its times mean something. On x86-64 that is the proved program
 # itself. Elsewhere the toolchain makes no program: the module that it hands its own compiler is taken, not proved anew, and compiled for this
 # machine with the same options; os.c stands in for the toolchain's functions of arguments and files. For measuring alone.
 set -euo pipefail
@@ -8,16 +8,16 @@ project=$(cd "$here/.." && pwd)
 out=$1
 machine=$(uname -m)
 if [ "$machine" = x86_64 ]; then
-  (cd "$project" && rt check measure > /dev/null)
-  cp "$project/target/bin/measure" "$out"
+  (cd "$project" && rt check replay_measure > /dev/null)
+  cp "$project/target/bin/replay_measure" "$out"
   exit
 fi
 kit=$(dirname "$(dirname "$(rt doc | tail -n 1)")")
 own=$kit/on/$machine
 
-# the crates that measure stands on, and those of the kit
+# the crates that it stands on, and those of the kit
 reached=''
-todo=$(sed -n 's/^measure: *//p' "$project/crates.txt")
+todo=$(sed -n 's/^replay_measure: *//p' "$project/crates.txt")
 while [ -n "$todo" ]; do
   next=''
   for d in $todo; do
@@ -42,7 +42,7 @@ for a in "\$@"; do case \$a in *.bc) n=\$(ls "$work" | grep -c '^module'); cp "\
 exec $own/toolchain/bin/clang "\$@"
 EOF
 chmod +x "$work"/tools/bin/*
-set -- --toolchain "$work/tools" --link "$kit/lib/libos_c.a" "$project/crates/measure/src/main.rt" --crate-name measure --lib "std=$kit/libs/std/src/lib.rt"
+set -- --toolchain "$work/tools" --link "$kit/lib/libos_c.a" "$project/crates/replay_measure/src/main.rt" --crate-name replay_measure --lib "std=$kit/libs/std/src/lib.rt"
 for d in $reached; do
   from=$project/crates
   [ -d "$project/crates/$d/src" ] || from=$kit/libs

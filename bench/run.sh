@@ -5,10 +5,10 @@ set -eu
 here=$(cd "$(dirname "$0")" && pwd)
 cd "$here"
 ../tests/oracle/setup.sh > /dev/null
-(cd .. && rt check measure > /dev/null)
+(cd .. && rt check replay_measure > /dev/null)
 python3 scenarios.py target/scenarios
 rust=../tests/oracle/target/x86_64-unknown-linux-gnu/release/bench
-ours=../target/bin/measure
+ours=../target/bin/replay_measure
 
 files() { echo "target/scenarios/$1.kernel target/scenarios/$1.questions"; }
 # Our side says on the error output where a question or a kernel is refused: then nothing is counted. Sixteen passes ask each question once; a kernel of
@@ -76,4 +76,4 @@ python3 times.py target/native ../tests/oracle/target/release/bench target/scena
 echo
 echo "Stack, from the x86-64 machine code; on another machine the frames differ, and this run does not measure them."
 echo
-python3 stack.py ../target/obj/measure.o
+python3 stack.py ../target/obj/replay_measure.o

@@ -43,7 +43,7 @@ def many(chance, count):
 
 
 class Packed:
-    """A kernel of so many segments, each of a pair of its own, in less than 200,000 bytes: the summary records stand one behind another, each the name
+    """A kernel of so many segments, each of a pair of its own, in less than 200,000 bytes: the summary records stand one after another, each the name
     record of the one before, and one run of nine doubles serves all but the segment in the middle."""
 
     def __init__(self, chance, count):

@@ -1,7 +1,7 @@
 #!/usr/bin/env python3
 """stack.py OBJECT: the bytes of stack that one call of each entry point needs, as a Markdown table.
 
-OBJECT is the x86-64 object of `measure` as `rt check` makes it (target/obj/measure.o). Its machine code is read: a function's
+OBJECT is the x86-64 object of `replay_measure` as `rt check` makes it (target/obj/replay_measure.o). Its machine code is read: a function's
 frame is what it pushes and takes off the stack pointer, a call adds its return address and the callee's need, and the
 deepest way counts. Where a walk calls itself, once for each of up to 32 steps, its frame counts 33 times; the compiler
 may have made a loop of it. The C library's functions, which copy and clear, are counted as none.

@@ -102,8 +102,10 @@ def record_of(line, bodies):
         raise Bad(f"{bodies} bod{'y' if bodies == 1 else 'ies'} and a date are needed, and {len(words)} words stand here")
     if len(scale) > 1:
         raise Bad(f"{len(words)} words stand here, where {bodies} bod{'y' if bodies == 1 else 'ies'} and a date are needed")
-    if scale not in ([], ["TDB"]) or words[bodies].endswith("Z"):
+    if words[bodies].endswith("Z"):
         raise Bad("dates are TDB: UTC and other time scales are not taken")
+    if scale not in ([], ["TDB"]):
+        raise Bad(f"{scale[0]!r} stands after the date, where only TDB may (a T joins date and time; UTC and other time scales are not taken)")
     numbers = [body_of(word) for word in words[:bodies]]
     mark = b"\xa5\x5b" if bodies == 2 else b"\xa5\x5c"
     return mark + struct.pack(f"<{bodies}id", *numbers, epoch_of(words[bodies]))
@@ -156,7 +158,7 @@ def main():
             sys.exit(1)
         write(given.output, b"".join(records))
     except OSError as error:
-        sys.exit(f"questions.py: {error}")
+        sys.exit(f"questions.py: {error.filename or name}: {error.strerror}")
     if records and len(records) * len(records[0]) > LIMIT:
         most = LIMIT // len(records[0])
         print(f"questions.py: {len(records)} questions; the programs take {most} in a file and refuse this one with 18", file=sys.stderr)

@@ -58,8 +58,8 @@ REFUSALS = {
     20: "a usage file names a 513th supplier",
 }
 DETAILS = {9: "segment", 11: "body", 12: "type", 13: "segment", 16: "segment"}
-# Refusals of a whole run: those of the opening and of a program's input. A question never has them, and a run never has another.
-OF_RUN = {*range(1, 10), 18, 19, 20}
+# Refusals of a whole run: those of the opening and of the input of these three programs. A question never has them, and a run never has another.
+OF_RUN = {*range(1, 10), 18, 19}
 
 # NAIF's numbers for the bodies asked for most. A number that is not here is printed alone.
 PLANETS = ["Mercury", "Venus", "Earth", "Mars", "Jupiter", "Saturn", "Uranus", "Neptune", "Pluto"]
@@ -81,7 +81,8 @@ SEGMENTS = re.compile(f"segments {COUNT}", re.ASCII)
 SEGMENT = re.compile(f"{COUNT} {WHOLE} {WHOLE} {WHOLE} {WHOLE} ({WORD}) ({WORD}) {WHOLE} {WHOLE} (yes|no)", re.ASCII)
 STATE = re.compile(rf"{COUNT} (same|chained|forward \d+|reversed \d+){SIX}", re.ASCII)
 ORIENTATION = re.compile(f"{COUNT} {WHOLE}{SIX}", re.ASCII)
-REFUSED = re.compile(f"(?:{COUNT} )?refused {COUNT} {WHOLE}", re.ASCII)
+REFUSED = re.compile(f"{COUNT} refused {COUNT} {WHOLE}", re.ASCII)  # of a question, its number first
+RUN_REFUSED = re.compile(f"refused {COUNT} {WHOLE}", re.ASCII)
 
 Question = namedtuple("Question", "bodies epoch")  # two bodies to an SPK, one body frame to a PCK
 
@@ -185,7 +186,7 @@ def refusal_text(number, detail, is_frame):
 
 
 def answer_text(line, is_frame, frame):
-    """The question's number where the line has one, its answer in words, and the lines of its numbers."""
+    """The question's number, its answer in words, and the lines of its numbers."""
     found = STATE.fullmatch(line)
     if found and not is_frame:
         way = re.sub(r" (\d+)", r", segment \1", found.group(2)) + f", in {frame}"
@@ -196,8 +197,7 @@ def answer_text(line, is_frame, frame):
         return int(found.group(1)), about, list(columns("123", ("rad", "rad/s"), found.group(3).split()))
     found = REFUSED.fullmatch(line)
     if found and int(found.group(2)) not in OF_RUN:
-        number = found.group(1) and int(found.group(1))
-        return number, refusal_text(int(found.group(2)), int(found.group(3)), is_frame), []
+        return int(found.group(1)), refusal_text(int(found.group(2)), int(found.group(3)), is_frame), []
     raise Bad(f"no line of {'orient' if is_frame else 'listing or ask'} stands here")
 
 
@@ -234,18 +234,18 @@ def listing_text(lines):
 
 def run_refused(lines):
     """The refusal of a whole run: a single line without a question's number, of a refusal that no question has."""
-    found = len(lines) == 1 and REFUSED.fullmatch(lines[0])
-    return found and not found.group(1) and int(found.group(2)) in OF_RUN and found
+    found = len(lines) == 1 and RUN_REFUSED.fullmatch(lines[0])
+    return found and int(found.group(1)) in OF_RUN and found
 
 
 def answers_text(lines, asked, frame):
-    """The answers, each under its question where these are known. Every line is a question's, in their order, with its number or without."""
+    """The answers, each under its question where these are known. Every line is a question's, in their order, and begins with its number."""
     is_frame = len(asked[0].bodies) == 1 if asked else any(ORIENTATION.fullmatch(line) for line in lines)
     out = []
     for i, line in enumerate(lines):
         try:
             number, answer, numbers = answer_text(line, is_frame, frame)
-            if number not in (None, i):
+            if number != i:
                 raise Bad(f"question {number} where {i} is due")
         except Bad as bad:
             raise Bad(f"line {i + 1}: {bad}") from None
@@ -261,8 +261,8 @@ def text_of(lines, data, frame):
     asked, fault = questions_in(data) if data is not None else ([], "")
     refused = run_refused(lines)
     if refused:
-        out = ["the whole run was " + refusal_text(int(refused.group(2)), int(refused.group(3)), False)]
-        return out + ([f"    {fault}"] if fault and int(refused.group(2)) == 19 else [])
+        out = ["the whole run was " + refusal_text(int(refused.group(1)), int(refused.group(2)), False)]
+        return out + ([f"    {fault}"] if fault and int(refused.group(1)) == 19 else [])
     if lines and SEGMENTS.fullmatch(lines[0]):
         return listing_text(lines)
     if fault:
@@ -295,8 +295,10 @@ def main():
         print("".join(line + "\n" for line in text_of(lines, data, given.frame)), end="", flush=True)
     except BrokenPipeError:
         os.dup2(os.open(os.devnull, os.O_WRONLY), sys.stdout.fileno())
-    except (Bad, OSError) as bad:
+    except Bad as bad:
         sys.exit(f"readable.py: {bad}")
+    except OSError as error:
+        sys.exit(f"readable.py: {error.filename or 'standard input'}: {error.strerror}")
 
 
 if __name__ == "__main__":

@@ -4,7 +4,7 @@
 Holds our programs against the given Rust on the cases that gen.py wrote to FOLDER. WORDS start a program
 for x86-64 where the machine is another; PROGRAM may be several words. Without a program its part is only tried on the
 Rust's side, the counts say so, and no answer of it is counted as compared. Segments asked by their number, and tables of
-another kernel, go through `cases`, kernels of over 65,536 bytes through `wide`. What our programs have to print comes from the tag and the Rust's lines:
+another kernel, go through `replay_cases`, kernels of over 65,536 bytes through `replay_wide`. What our programs have to print comes from the tag and the Rust's lines:
 
 - opening tagged refused: that refusal line alone, whatever the Rust does; its doing is counted.
 - NaN epoch: 10. A segment asked by its number that doesn't exist: 17. One that the table doesn't fit: 14. The Rust's error of coverage, type, RADIUS: 11, 12, 13 with the detail it names.
@@ -25,7 +25,6 @@ import tempfile
 
 from opening import summaries, walk
 
-NUMBERED_REFUSALS = False  # whether a refused question's line begins with the question's number
 HERE = os.path.dirname(os.path.abspath(__file__))
 
 
@@ -54,7 +53,7 @@ class Case:
         return os.path.exists(self.path("origin"))
 
     def block(self):
-        """This case as the program `cases` reads it."""
+        """This case as the program `replay_cases` reads it."""
         parts = [self.read(suffix) for suffix in ("origin", "kernel", "questions")]
         kind = {"orient": 2, "alone": 3}.get(self.program, 1 if self.matrix() else 0)
         return struct.pack("<4I", kind, *map(len, parts)) + self.read("matrix") + b"".join(parts)
@@ -86,7 +85,7 @@ def chooser(kernel):
 
 
 def run(words, stdin=None):
-    """What a program prints, line by line; its error output behind it if it fails."""
+    """What a program prints, line by line; its error output after it if it fails."""
     done = subprocess.run(words, input=stdin, capture_output=True, timeout=120)
     lines = done.stdout.decode(errors="replace").split("\n")
     if lines[-1] != "":
@@ -107,7 +106,8 @@ REFUSED = {"coverage": 11, "type": 12, "radius": 13}
 
 
 def refusal(index, number, detail=0):
-    return f"{index} " * NUMBERED_REFUSALS + f"refused {number} {detail}"
+    """A refused question's line: it begins with the question's number, which the line of a whole run refused has not."""
+    return f"{index} refused {number} {detail}"
 
 
 def refuses_fit(words, segment, unfit):
@@ -172,7 +172,7 @@ class Comparison:
         return run([*shlex.split(self.options.run), *shlex.split(name), *words], stdin) if name else None
 
     def replayed(self, case):
-        """What our program prints about a case: its own program, or `cases` where that takes no such input."""
+        """What our program prints about a case: its own program, or `replay_cases` where that takes no such input."""
         if not case.forged() and case.program != "alone":
             return self.ours(case.program, [case.path("kernel"), case.path("questions"), *case.matrix()])
         with tempfile.NamedTemporaryFile() as f:
@@ -223,7 +223,7 @@ class Comparison:
         return lines
 
     def refused(self, case):
-        """Our line for a kernel that document 01 refuses; the Rust's doing is counted beside it."""
+        """Our line for a kernel that RULES, "Opening", refuses; the Rust's doing is counted beside it."""
         number = case.expect.split(" ")[1]
         said = self.asked_rust(case)
         doing = " ".join(said[0].split(" ")[:3]) if not said[0].startswith("opened") else "opens"
@@ -261,7 +261,7 @@ class Comparison:
     def report(self):
         for name, n in sorted(self.counts.items()):
             print(f"{n:8} {name}")
-        print("What the Rust does where document 01 refuses the opening:")
+        print("What the Rust does where the rules refuse the opening:")
         for (number, program, doing), n in sorted(self.departures.items()):
             print(f"{n:8} refusal {number}, {program}: {doing}")
         print(f"{self.counts['answers compared']} answers compared bit for bit, {self.failures} failures")

@@ -118,7 +118,7 @@ def tiny(chance, kind, i):
 
 
 def amid(chance, kind, bad):
-    """A kernel with one bad segment among good ones, and the refusal that names it; sometimes a worse one behind."""
+    """A kernel with one bad segment among good ones, and the refusal that names it; sometimes a worse one after it."""
     good = [tiny(chance, kind, i) for i in range(4)]
     place = chance.below(5)
     if chance.one_in(4):

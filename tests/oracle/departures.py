@@ -1,7 +1,7 @@
 #!/usr/bin/env python3
-"""departures.py [--ask PROGRAM] [--orient PROGRAM] [--run WORDS]: where the Rust or NAIF departs from document 01, each with a small input.
+"""departures.py [--ask PROGRAM] [--orient PROGRAM] [--run WORDS]: where the Rust or NAIF departs from RULES, each with a small input.
 
-What document 01 demands is held against our program where one is given; what the Rust does is held against the
+What RULES demands is held against our program where one is given; what the Rust does is held against the
 Rust, so that a departure which is gone shows. An expected line may be the beginning of the line printed.
 """
 
@@ -71,9 +71,9 @@ def epochs():
     chained = spk(segment(series(), first=NAN), segment(series(), pair=(3, 0)))
     yield "a NaN limit covers every epoch in a chain", chained, ask_record(399, 0, 1.0), MALFORMED, ["opened 2", "0 chained"]
     two = spk(segment(series(), pair=(399, 0)), segment(series(), pair=(301, 0)))
-    yield "a NaN epoch over a chain", two, ask_record(399, 301, NAN), ["refused 10 0"], ["opened 2", "0 chained"]
+    yield "a NaN epoch over a chain", two, ask_record(399, 301, NAN), ["0 refused 10 0"], ["opened 2", "0 chained"]
     hot = spk(segment(series([5.0, 5.0, INF, 2.0, 3.0])))
-    yield "a number that is not finite", hot, ask_record(399, 3, 1.0), ["refused 15 0"], ["opened 1", "0 forward 0 7ff0000000000000"]
+    yield "a number that is not finite", hot, ask_record(399, 3, 1.0), ["0 refused 15 0"], ["opened 1", "0 forward 0 7ff0000000000000"]
 
 
 def walks():
@@ -92,7 +92,7 @@ def orientations():
     pck = lambda doubles, last: Kernel("pck", [Segment((3000, 1, 2), 0.0, last, doubles)])  # noqa: E731
     answer = ["opened 1", f"0 1 {SIX}"]
     yield "PCK: a NaN limit covers every epoch", pck(series(), NAN), orient_record(3000, 99.0), MALFORMED, answer
-    yield "PCK: a NaN epoch is answered", pck(series(), 10.0), orient_record(3000, NAN), ["refused 10 0"], answer
+    yield "PCK: a NaN epoch is answered", pck(series(), 10.0), orient_record(3000, NAN), ["0 refused 10 0"], answer
     yield "PCK: N 0", pck(series(n=0.0), 10.0), orient_record(3000, 1.0), MALFORMED, ["opened 1", "0 panic"]
 
 

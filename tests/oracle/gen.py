@@ -2,7 +2,7 @@
 """gen.py FOLDER [SEED [SCALE]]: kernels with questions, the same from the same seed.
 
 Writes N.kernel, N.questions and where there is one N.matrix, and index.tsv with a line for each case:
-number, family, program, what document 01 demands of the opening (`accepted`, `refused N D`, or the whole
+number, family, program, what RULES, "Opening", demands of the opening (`accepted`, `refused N D`, or the whole
 output of a program that refuses its input), and a note: `degree wraps`, where the Rust is asked about N.twin
 with a degree that doesn't; or `unfit` and numbers of segments, where the table is made from N.origin and
 these segments then don't fit N.kernel (the Rust's kernel is N.twin, whose trailers and length are the origin's).
@@ -23,7 +23,7 @@ from valid import (BODIES, UNSUPPORTED, alone, chain, layout_of, mixed, orientat
 
 HANDLED = [2, 3, 9, 13]
 LIMIT = 65536
-WIDE = 200000  # what the program `wide` takes
+WIDE = 200000  # what the program `replay_wide` takes
 ORACLE = os.path.join(os.path.dirname(os.path.abspath(__file__)), "target/release/oracle")
 
 
@@ -137,7 +137,7 @@ def chains(cases, chance, scale):
 
 
 def packed(chance, n):
-    """A kernel of n type 2 segments: the summary records stand one behind another, and sixteen runs of doubles serve them all."""
+    """A kernel of n type 2 segments: the summary records stand one after another, and sixteen runs of doubles serve them all."""
     records = (n + 24) // 25
     doubles = [[10.0 * i, 5.0, chance.spread(1e8), chance.spread(1e6), chance.spread(1e4), 10.0 * i - 5.0, 10.0, 5.0, 1.0] for i in range(16)]
     out = bytearray(Kernel("spk", []).bytes[:1024])
@@ -269,7 +269,7 @@ def programs(cases, chance):
         cases.add("empty", program, good, b"", "")
         for spoilt in (record[:-1], record[:1], record + record[:5], record * 3 + b"\xa5\x5a" + record[2:], b"\xa4" + record[1:] + record, record * 2 + b"\xa5", record[2:] + record[:2]):
             cases.add("19", program, good, spoilt, "refused 19 0")
-            cases.add("19 behind 2", program, bad, spoilt, "refused 2 0")
+            cases.add("19 after 2", program, bad, spoilt, "refused 2 0")
         cases.add("19", program, good, orient_record(1, 1.0) if program == "ask" else ask_record(1, 2, 1.0), "refused 19 0")
     cases.add("18", "ask", k.bytes, ask_record(399, 3, 1.0), "refused 18 0", matrix=bytes(LIMIT + 1))
 

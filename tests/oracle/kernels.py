@@ -87,7 +87,7 @@ class Layout:
         self.comments = comments  # comment records before the first summary record
         self.hollow = hollow  # a summary record of no summaries after each
         self.backward = backward  # the walk goes from the last place to the first
-        self.tail = tail  # bytes behind the data
+        self.tail = tail  # bytes after the data
         self.gap = gap  # unused doubles before each segment
         self.cut = cut  # the last record ends with the data
 
@@ -101,7 +101,7 @@ class Kernel:
         self.bytes = bytearray()
         self.records = []  # places of the summary records, in the walk's order
         self.summaries = []  # place of each segment's summary
-        self.trailers = []  # place behind each segment's last double
+        self.trailers = []  # place after each segment's last double
         self.write()
 
     def groups(self):

@@ -1,10 +1,11 @@
-"""Document 01's opening, read off the bytes: what a kernel's tag is worked out with."""
+"""The opening of RULES, "Opening", read off the bytes: what a kernel's tag is worked out with."""
 
 import math
 import struct
 
 WORD = 2**64 - 1
 HALF = 2**32 - 1
+PLACES = 4096  # of the table that a program lends
 
 
 def cut(d, largest):
@@ -95,7 +96,7 @@ def summaries(kernel, places):
     counts = [cut(double_at(kernel, place + 16), WORD) for place in places]
     if any(n > 25 for n in counts):
         raise Refused(7)
-    if sum(counts) > 4096:
+    if sum(counts) > PLACES:
         raise Refused(8)
     return [place + 24 + 40 * i for place, n in zip(places, counts) for i in range(n)]
 

@@ -1,10 +1,10 @@
 #!/usr/bin/env python3
 """stored.py FOLDER [--seed N]: a sample of the Rust's answers for the gate, which has no Rust.
 
-Writes what the program `cases` (FOLDER is crates/cases) is run on: data/0.cases, data/1.cases, ... of at most 65,536
+Writes what the program `replay_cases` (FOLDER is crates/replay_cases) is run on: data/0.cases, data/1.cases, ... of at most 65,536
 bytes each, their names in `args`, and `stdout`: the lines that it must print. A file is a run of blocks: four words
 of four bytes (0 ask, 1 ask turned, 2 orient, 3 segments alone, 4 those of a PCK, which tests/vectors/alone.py adds
-behind these with the second program's lines; the lengths of the kernel that the table is made from,
+after these with the second program's lines; the lengths of the kernel that the table is made from,
 0 if it is the kernel itself, of the kernel and of the questions), 72 bytes of matrix if turned, and the three parts;
 all little-endian. A block's lines are what `ask` or `orient` prints about it, or `forward S` of a segment alone. The
 kernels are small ones of gen.py's kinds: every type, every way, chains of 32 and 33 steps, tables of another kernel,
@@ -18,6 +18,7 @@ import struct
 import tempfile
 
 import damaged
+import opening
 from compare import HERE, Case, Comparison
 from gen import Cases, eclip, of_others, turn
 from kernels import Chance, Kernel, Layout, Segment, ask_record, double, orient_record
@@ -25,6 +26,7 @@ from valid import BODIES, alone, mixed, orientations, pck_mixed, questions, stat
 
 TYPES = [2, 3, 9, 13] * 3 + [5]
 LIMIT = 65536
+opening.PLACES = 256  # the program `replay_cases` stands for a small host
 
 
 def system(chance):
@@ -84,7 +86,7 @@ def refused(cases, chance):
         for family in damaged.ON_PURPOSE:
             for kernel, aimed in family(chance, kind):
                 key = (family.__name__ if kind == "spk" else "", (aimed or "").split(" ")[1:2])
-                if aimed and key[1] != ["8"] and len(kernel) < len(smallest.get(str(key), (bytes(LIMIT), ""))[0]):
+                if aimed and opening.opening(kernel, kind) == aimed and len(kernel) < len(smallest.get(str(key), (bytes(LIMIT), ""))[0]):
                     smallest[str(key)] = (kernel, aimed)
         for kernel, aimed in smallest.values():
             add("refused", kernel, asked, aimed)

@@ -1,4 +1,4 @@
-"""Random segments, kernels that document 01 accepts, and questions about them."""
+"""Random segments, kernels that RULES, "Opening", accepts, and questions about them."""
 
 import math
 

@@ -1,22 +1,22 @@
 #!/usr/bin/env python3
-"""cases.py FILE...: the second program's lines about blocks, as the program `cases` writes them; tests/oracle/stored.py describes a block."""
+"""cases.py FILE...: the second program's lines about blocks, as the program `replay_cases` writes them; tests/oracle/stored.py describes a block."""
 
 import struct
 import sys
 
 import second
 
-# the program `cases` stands for a small host
+# the program `replay_cases` stands for a small host
 second.MOST_SEGMENTS = 256
 
 PROGRAMS = {0: "ask", 1: "ask", 2: "orient", 3: "alone", 4: "alone_pck"}
 
 
 def numbered(lines, records):
-    """Lines of segments alone, with the segment behind the question's number."""
+    """Lines of segments alone, with the segment after the question's number."""
     for line, (segment, _) in zip(lines, records):
         number, _, rest = line.partition(" ")
-        yield line if line.startswith("refused") else f"{number} forward {segment} {rest}"
+        yield line if rest.startswith("refused") else f"{number} forward {segment} {rest}"
 
 
 def block_lines(program, origin, kernel, questions, matrix):

@@ -9,5 +9,5 @@ python3 test_second.py
 python3 ../oracle/gen.py ../oracle/target/second "${SEED:-1}" "${SCALE:-1}"
 python3 ../oracle/compare.py ../oracle/target/second --ask "python3 $here/second.py ask" --orient "python3 $here/second.py orient" \
   --listing "python3 $here/second.py listing" --cases "python3 $here/cases.py"
-(cd ../../crates/cases/data && xargs python3 "$here/cases.py" <../args) | cmp - ../../crates/cases/stdout
+(cd ../../crates/replay_cases/data && xargs python3 "$here/cases.py" <../args) | cmp - ../../crates/replay_cases/stdout
 echo "the stored cases: the same lines"

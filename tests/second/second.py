@@ -1,8 +1,8 @@
 #!/usr/bin/env python3
 """A second reader and evaluator of SPK and PCK kernels, for comparison.
 
-Written from document 01 alone, for plainness and not for speed.  Numbers in
-words below (refusal 9, 14 and so on) are document 01's.
+Written from the rules alone, for plainness and not for speed.  Numbers in
+words below (refusal 9, 14 and so on) are those of RULES, "Refusals".
 
     second.py listing < KERNEL
     second.py ask KERNEL QUESTIONS [MATRIX]
@@ -46,7 +46,7 @@ FORWARD = "forward"
 REVERSED = "reversed"
 CHAINED = "chained"
 
-# A refusal: document 01's number and detail.
+# A refusal: its number and detail in RULES, "Refusals".
 Refusal = namedtuple("Refusal", "number detail")
 
 # A state's answer: its way, the segment's number where the way has one, and
@@ -778,9 +778,6 @@ class Misused(Exception):
     """What is wrong with a call, for the error output."""
 
 
-# Whether a refused question's line begins with the question's number.
-NUMBERED_REFUSALS = False
-
 MARKS = {"ask": b"\xa5\x5b", "orient": b"\xa5\x5c", "alone": b"\xa5\x5d",
          "alone_pck": b"\xa5\x5d"}
 LAYOUTS = {"ask": "<2siid", "orient": "<2sid", "alone": "<2sId",
@@ -788,6 +785,7 @@ LAYOUTS = {"ask": "<2siid", "orient": "<2sid", "alone": "<2sId",
 
 
 def refused_line(refusal):
+    """The one line of a run that is refused whole."""
     return "refused %d %d" % refusal
 
 
@@ -796,8 +794,8 @@ def answer_line(number, words, six):
 
 
 def refused_answer_line(number, refusal):
-    line = refused_line(refusal)
-    return "%d %s" % (number, line) if NUMBERED_REFUSALS else line
+    """The line of a refused question, which begins with its number."""
+    return "%d %s" % (number, refused_line(refusal))
 
 
 def listing_lines(kernel):

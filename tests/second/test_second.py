@@ -1,5 +1,5 @@
 #!/usr/bin/env python3
-"""Tests of second.py: the numbers of document 01, every refusal with its
+"""Tests of second.py: the worked numbers, every refusal with its
 smallest input, and the edges of each rule.
 
     python3 test_second.py
@@ -123,7 +123,7 @@ def constant_3(six, mid=5.0, radius=5.0):
 
 
 def discrete(rows, epochs, degree):
-    """Type 9 or 13 data, its directory counted as document 01 counts."""
+    """Type 9 or 13 data, its directory counted as in RULES, "Opening"."""
     data = [x for row in rows for x in row] + list(epochs)
     data += [epochs[100 * (k + 1) - 1] for k in range(len(epochs) // 100)]
     return data + [degree, float(len(epochs))]
@@ -1796,8 +1796,8 @@ class Programs(Base):
             "1 forward 0 3ff0000000000000" + zero * 5 + "\n"
             "2 reversed 0 bff0000000000000" + minus * 5 + "\n"
             "3 chained c000000000000000" + zero * 5 + "\n"
-            "refused 10 0\n"
-            "refused 11 9\n").encode(), b""))
+            "4 refused 10 0\n"
+            "5 refused 11 9\n").encode(), b""))
 
     def test_ask_matrix(self):
         kernel = build([Piece(constant_3((1.0, 2.0, 3.0, 4.0, 5.0, 6.0)),
@@ -1866,7 +1866,7 @@ class Programs(Base):
         answer = " 17 3ff0000000000000" + " 0000000000000000" * 5 + "\n"
         self.assertEqual(
             self.with_files("orient", kernel, questions),
-            (0, ("0" + answer + "refused 11 3000\nrefused 10 0\n3" + answer)
+            (0, ("0" + answer + "1 refused 11 3000\n2 refused 10 0\n3" + answer)
              .encode(), b""))
 
     def test_alone(self):
@@ -1876,7 +1876,8 @@ class Programs(Base):
         self.assertEqual(
             self.with_files("alone", kernel, questions),
             (0, ("0 3ff0000000000000" + " 0000000000000000" * 5 + "\n"
-                 "refused 12 8\nrefused 17 0\nrefused 17 0\nrefused 10 0\n")
+                 "1 refused 12 8\n2 refused 17 0\n3 refused 17 0\n"
+                 "4 refused 10 0\n")
              .encode(), b""))
 
     def test_statement(self):
@@ -1910,13 +1911,12 @@ class Programs(Base):
                          ["%d 16" % i for i in range(512)] + ["total 8192"])
 
     def test_numbered_refusals(self):
-        second.NUMBERED_REFUSALS = True
-        try:
-            lines = second.answer_lines("ask", build([]),
-                                        self.question(1, 2, NAN))
-        finally:
-            second.NUMBERED_REFUSALS = False
-        self.assertEqual(lines, ["0 refused 10 0"])
+        # A question's line begins with its number, a run's doesn't.
+        asked = self.question(1, 2, NAN)
+        self.assertEqual(second.answer_lines("ask", build([]), asked),
+                         ["0 refused 10 0"])
+        self.assertEqual(second.answer_lines("ask", b"", asked),
+                         ["refused 1 0"])
 
     def test_misuse(self):
         for arguments in ([], ["list"], ["listing", "x"], ["ask"],

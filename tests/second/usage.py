@@ -655,7 +655,7 @@ def write_out(files):
 
 
 def arguments(words):
-    """Program, seed and scale: the options stand before or behind."""
+    """Program, seed and scale: the options stand before or after it."""
     options = {"--seed": 1, "--scale": 1}
     try:
         while len(words) >= 2 and words[-2] in options:

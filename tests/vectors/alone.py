@@ -1,9 +1,9 @@
 #!/usr/bin/env python3
-"""Adds to what crates/cases is run on: segments of a PCK by their numbers, with the lines of the second program.
+"""Adds to what crates/replay_cases is run on: segments of a PCK by their numbers, with the lines of the second program.
 
 data/alone.cases: blocks of kind 4 (tests/oracle/stored.py describes a block). The kernel is that of orient.py: every segment is asked, covering or
 not, and numbers that no segment has; then with the table of another kernel, whose trailers differ or which is shorter; then what is refused before
-any question. Run it behind stored.py, whose lines the second program must give too.
+any question. Run it after stored.py, whose lines the second program must give too.
 """
 import os
 import struct
@@ -66,18 +66,18 @@ def main(folder):
         names = [name for name in f.read().split() if name != NAME]
     with open(os.path.join(folder, "stdout")) as f:
         stored = f.read().splitlines()
-    lines, behind = [], 0
+    lines, before = [], 0
     for name in names + [NAME]:
-        behind = len(lines)
+        before = len(lines)
         with open(os.path.join(folder, "data", name), "rb") as f:
             lines += [line for b in cases.blocks(f.read()) for line in cases.block_lines(*b)]
-    if lines[:behind] != stored[:behind]:
+    if lines[:before] != stored[:before]:
         sys.exit("the stored lines are others")
     for name, written in (("args", names + [NAME]), ("stdout", lines)):
         with open(os.path.join(folder, name), "w") as f:
             f.write("".join(text + "\n" for text in written))
-    print(behind, "lines before,", len(lines) - behind, "added")
+    print(before, "lines before,", len(lines) - before, "added")
 
 
 if __name__ == "__main__":
-    main(*(sys.argv[1:] or ["crates/cases"]))
+    main(*(sys.argv[1:] or ["crates/replay_cases"]))

@@ -1,5 +1,5 @@
 #!/usr/bin/env python3
-"""Writes what crates/bits_main is run on and what it must write, from the meaning of each number and not from its code.
+"""Writes what crates/replay_bits is run on and what it must write, from the meaning of each number and not from its code.
 
 stdin: 500 patterns of 8 bytes, edges first, then a fixed pseudo-random run. stdout: for each pattern the pattern itself, the signed 32-bit number
 of its first four bytes (0 where negative), the double cut at 64 and at 32 bits, the record index among 7, and whether it is 1.0, as 16 hex digits.
@@ -60,4 +60,4 @@ def main(folder):
 
 
 if __name__ == "__main__":
-    main(sys.argv[1] if len(sys.argv) > 1 else "crates/bits_main")
+    main(sys.argv[1] if len(sys.argv) > 1 else "crates/replay_bits")

@@ -1,5 +1,5 @@
 #!/usr/bin/env python3
-"""Writes what crates/cheby_main is run on and what it must write: random Chebyshev segments, and the given Rust's answers to questions about them.
+"""Writes what crates/replay_cheby is run on and what it must write: random Chebyshev segments, and the given Rust's answers to questions about them.
 
     cheby.py [ORACLE]     ORACLE is the driver that tests/oracle/setup.sh builds, by default tests/oracle/target/release/oracle
 
@@ -74,7 +74,7 @@ def block(kind, n, init, intlen, records, epochs):
 
 
 def kernel(word, parts):
-    """A kernel of these segments, (whole numbers, doubles) each, 25 to a summary record, the data behind the last name record."""
+    """A kernel of these segments, (whole numbers, doubles) each, 25 to a summary record, the data after the last name record."""
     pairs = (len(parts) + 24) // 25
     out = bytearray(1024 * (1 + 2 * pairs))
     out[0:16] = word + struct.pack("<II", 2, len(parts[0][0]) + 2)
@@ -90,7 +90,7 @@ def kernel(word, parts):
 
 
 def ask(oracle, command, kernel_bytes, mark, questions):
-    """The answers' words behind the question's number."""
+    """The answers' words after the question's number."""
     with tempfile.TemporaryDirectory() as there:
         files = [Path(there, "kernel"), Path(there, "questions")]
         files[0].write_bytes(kernel_bytes)
@@ -104,6 +104,7 @@ def ask(oracle, command, kernel_bytes, mark, questions):
 def line(words):
     if words[:2] == ["error", "radius"]:
         return "no radius\n"
+    words = words[2:] if words[0] == "forward" else words
     assert len(words) == 6, words
     nan = lambda w: math.isnan(struct.unpack(">d", bytes.fromhex(w))[0])
     return "".join("nan " if nan(w) else w + " " for w in words) + "\n"
@@ -123,8 +124,8 @@ def main():
 
     data = b"".join(block(*s) for s in segments)
     assert len(data) <= 65536, len(data)
-    (ROOT / "crates/cheby_main/stdin").write_bytes(data)
-    (ROOT / "crates/cheby_main/stdout").write_text("".join(answers))
+    (ROOT / "crates/replay_cheby/stdin").write_bytes(data)
+    (ROOT / "crates/replay_cheby/stdout").write_text("".join(answers))
 
 
 if __name__ == "__main__":

@@ -1,8 +1,8 @@
 #!/usr/bin/env python3
-"""Writes what crates/daf_main is run on and what it must write.
+"""Writes what crates/replay_daf is run on and what it must write.
 
-stdin: kernels whose walk, counts and names go to the edges of document 01, each behind its length in four bytes. stdout: what tests/second, written
-from document 01 alone, makes of each, as an SPK and as a PCK: first record, records, summaries and the name behind the first, or the refusal. No
+stdin: kernels whose walk, counts and names go to the edges of the rules (RULES, "Kernels" and "Opening"), each after its length in four bytes. stdout: what tests/second, written
+from the rules alone, makes of each, as an SPK and as a PCK: first record, records, summaries and the name after the first, or the refusal. No
 segment here is of a handled type, so that refusal 9 does not come in.
 """
 import os
@@ -12,6 +12,8 @@ import sys
 HERE = os.path.dirname(os.path.abspath(__file__))
 sys.path.insert(0, os.path.join(HERE, "..", "second"))
 import second  # noqa: E402
+
+second.MOST_SEGMENTS = 256  # the program `replay_daf` stands for a small host
 
 NAN = float("nan")
 
@@ -123,4 +125,4 @@ def main(folder):
 
 
 if __name__ == "__main__":
-    main(sys.argv[1] if len(sys.argv) > 1 else "crates/daf_main")
+    main(sys.argv[1] if len(sys.argv) > 1 else "crates/replay_daf")

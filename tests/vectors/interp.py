@@ -1,5 +1,5 @@
 #!/usr/bin/env python3
-"""Writes what crates/interp_main is run on and what it must write: random blocks, and what the given Rust makes of them.
+"""Writes what crates/replay_interp is run on and what it must write: random blocks, and what the given Rust makes of them.
 
 usage, from the repository's top: tests/vectors/interp.py [FUNCTIONS]
 FUNCTIONS is the program of that name of tests/oracle, which takes the functions from the given spk.rs; it is asked for `type9` and `type13`, the
@@ -44,7 +44,7 @@ def epochs(rng, n):
 
 
 def asked(rng, times):
-    """An epoch at, between, before or behind the stored ones, or an odd one."""
+    """An epoch at, between, before or after the stored ones, or an odd one."""
     kind = rng.random()
     if kind < 0.2:
         return rng.choice(times)
@@ -100,8 +100,8 @@ def main():
         assert len(six) == 6, six
         shown = ["nan" if int(w, 16) % 2**63 > 0x7FF0000000000000 else w for w in six]
         text += " ".join([start] + shown) + "\n"
-    open("crates/interp_main/stdin", "wb").write(bytes(data))
-    open("crates/interp_main/stdout", "w").write(text)
+    open("crates/replay_interp/stdin", "wb").write(bytes(data))
+    open("crates/replay_interp/stdout", "w").write(text)
 
 
 main()

@@ -1,5 +1,5 @@
 #!/usr/bin/env python3
-"""Writes what crates/listing is run on and what it must write: document 01's example kernel, and its two lines as they stand there."""
+"""Writes what crates/listing is run on and what it must write: a worked kernel of one record, and its two lines, written out."""
 import os
 import struct
 

@@ -1,8 +1,8 @@
 #!/usr/bin/env python3
 """Writes what crates/orient is run on and what it must write.
 
-data/kernel: a PCK made from document 01's format, whose segments overlap, are of an unsupported type, have no RADIUS, or give numbers that are not
-finite. data/questions: epochs at the edges of its segments and records. stdout: what tests/second, written from document 01 alone, prints.
+data/kernel: a PCK made from the format in RULES, "Kernels", whose segments overlap, are of an unsupported type, have no RADIUS, or give numbers that are not
+finite. data/questions: epochs at the edges of its segments and records. stdout: what tests/second, written from the rules alone, prints.
 With the driver of tests/oracle as second argument the Rust's answers are held against it too.
 """
 import os
@@ -96,7 +96,7 @@ def main(folder, oracle=None):
     print(len(files["kernel"]), "bytes,", len(lines), "questions")
     if oracle:
         rust = compare.run([oracle, "orient"] + paths)[1:]
-        held = [compare.expected(i, (False, False, et), line) for i, ((_, et), line) in enumerate(zip(questions(), rust))]
+        held = [compare.expected(i, (False, False, et, None), line) for i, ((_, et), line) in enumerate(zip(questions(), rust))]
         if held != lines:
             sys.exit("the Rust's answers are others")
         print("the Rust gives the same")

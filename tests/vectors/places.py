@@ -1,5 +1,5 @@
 #!/usr/bin/env python3
-"""Writes what crates/places is run on and what it must write: kernels of 0 to 4,097 summaries, and a model of a table that is lent to two openings; then
+"""Writes what crates/replay_places is run on and what it must write: kernels of 0 to 4,097 summaries, and a model of a table that is lent to two openings; then
 openings by value, which remember nothing.
 
 Kernel c's segment i has target i + 1, center 0, type 1, which is none that is handled, no data, and the last epoch 10,000 c + i + 1: no two kernels have
@@ -10,7 +10,7 @@ import os
 import struct
 
 HERE = os.path.dirname(os.path.abspath(__file__))
-INTO = os.path.join(HERE, "..", "..", "crates", "places")
+INTO = os.path.join(HERE, "..", "..", "crates", "replay_places")
 KERNELS = [("none", 0), ("one", 1), ("some", 256), ("more", 257), ("most", 4096), ("many", 4097)]
 PLACES = (0, 256, 257, 4096, 4097)
 PAIRS = [(1, 1), (1, 2), (2, 1), (4, 2), (4, 3), (3, 4), (6, 2), (6, 5), (5, 6), (5, 2)]  # by number, from 1
@@ -43,7 +43,7 @@ def kernel(c):
 
 
 def opened(table, c):
-    """Opens kernel c into the table: what it came to, and how many segments there are."""
+    """Opens kernel c into the table: its outcome, 8 or a count, and how many segments there are."""
     lasts = epochs(c)
     if len(lasts) > min(len(table), LIMIT):
         return 8, 0

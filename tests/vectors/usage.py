@@ -1,7 +1,7 @@
 #!/usr/bin/env python3
-"""Writes what crates/statement and crates/account_main are run on and what they must write.
+"""Writes what crates/statement and crates/replay_statement are run on and what they must write.
 
-crates/statement: stdin, a usage file of five suppliers. crates/account_main: data/files, blocks of a length and a usage file each, at the edges of the
+crates/statement: stdin, a usage file of five suppliers. crates/replay_statement: data/files, blocks of a length and a usage file each, at the edges of the
 rules. stdout of both is what tests/second, written from the rules alone, prints.
 """
 import os
@@ -74,10 +74,10 @@ def main():
     files = list(edges())
     blocks = b"".join(struct.pack("<I", len(f)) + f for f in files)
     if len(blocks) > 65536:
-        sys.exit(f"{len(blocks)} bytes of blocks are more than account_main takes")
-    write("account_main/data/files", blocks)
-    write("account_main/args", b"files\n")
-    write("account_main/stdout", b"".join(text(f) for f in files))
+        sys.exit(f"{len(blocks)} bytes of blocks are more than replay_statement takes")
+    write("replay_statement/data/files", blocks)
+    write("replay_statement/args", b"files\n")
+    write("replay_statement/stdout", b"".join(text(f) for f in files))
     write("statement/stdin", sample())
     write("statement/stdout", text(sample()))
     print(f"{len(files)} usage files, {len(blocks)} bytes")

@@ -1,31 +1,51 @@
 // ask KERNEL QUESTIONS [MATRIX]: puts the questions of a file to an SPK kernel and writes a line for each answer, or the refusal.
 // Every file is read before anything is written. A matrix file is none unless it has 72 bytes.
-use inquiry::Matrix;
-use refusal::Refusal;
+ghost use Prim.Native.Nat.{_≤_, _+_};
+ghost use lib.ListN.{length};
+ghost use Rattle.streams.specs.Input.{inputLimit};
+use admission::Matrix;
 use streams::Input;
 
-// Asked with a matrix.
-fn reply_turned(kernel: &[u8], asked: &[u8], matrix: &[u8]) {
-    let m = inquiry::matrix_for(kernel, asked, matrix);
+// What the program takes, on the error output.
+fn explain() {
+    streams::complain(b"usage: ask KERNEL QUESTIONS [MATRIX]\n");
+    streams::complain(
+        b"KERNEL an SPK file, QUESTIONS records of 18 bytes (A5 5B, target, center, epoch), MATRIX nine doubles: J2000 to ECLIPJ2000\n",
+    );
+    streams::complain(
+        b"writes a line for each question: its number, the way, six numbers in km and km/s as bits; or the refusal\n",
+    );
+}
+
+// Writes the whole output, at once.
+fn print(kernel: &[u8], asked: &[u8], matrix: &[u8])
+    requires { ⌜ length (now asked) ≤ inputLimit + 1 ⌝ }
+{
+    let mut out = [0u8; ask_text::ROOM];
+    let end = ask_text::put_output(&mut out, kernel, asked, matrix);
+    streams::write(&out, end);
+}
+
+// The same with a matrix file, where it is one.
+fn print_turned(kernel: &[u8], asked: &[u8], matrix: &[u8])
+    requires { ⌜ length (now asked) ≤ inputLimit + 1 ⌝ }
+{
+    let m = admission::matrix_for(kernel, asked, matrix);
     match m {
-        Matrix::TooLong => {
-            streams::write_refusal(Refusal::InputTooLong);
-        }
-        Matrix::Unfit => {
-            streams::complain(b"MATRIX: not 72 bytes long\n");
-        }
-        Matrix::Taken => {
-            asking::reply(kernel, asked, matrix);
-        }
+        Matrix::TooLong => print(kernel, asked, matrix),
+        Matrix::Unfit => streams::complain(b"MATRIX: not 72 bytes long\n"),
+        Matrix::Taken => print(kernel, asked, matrix),
     }
 }
 
 // Reads the matrix.
-fn with_matrix(kernel: &[u8], asked: &[u8]) {
+fn with_matrix(kernel: &[u8], asked: &[u8])
+    requires { ⌜ length (now asked) ≤ inputLimit + 1 ⌝ }
+{
     let mut buf = [0u8; streams::ROOM];
     let input = streams::read_argument(3, b"MATRIX", &mut buf);
     if let Input::Bytes(n) = input {
-        reply_turned(kernel, asked, &buf[..n]);
+        print_turned(kernel, asked, &buf[..n]);
     }
 }
 
@@ -37,7 +57,7 @@ fn with_questions(kernel: &[u8], turned: bool) {
         if turned {
             with_matrix(kernel, &buf[..n]);
         } else {
-            asking::reply(kernel, &buf[..n], b"");
+            print(kernel, &buf[..n], b"");
         }
     }
 }
@@ -56,6 +76,6 @@ fn main() {
     if given == 3 || given == 4 {
         with_kernel(given == 4);
     } else {
-        streams::complain(b"usage: ask KERNEL QUESTIONS [MATRIX]\n");
+        explain();
     }
 }

@@ -76,7 +76,7 @@ pub stuck-cases :
 unfolding toZero walkFrom stepFrom stepIn look met plusState zeroState add le neg ofInt ofBits
 stuck-cases = refl
 
--- the first wins; center 0 later in file order is preferred; a refusal ends all, also of a segment that is not taken; behind one that
+-- the first wins; center 0 later in file order is preferred; a refusal ends all, also of a segment that is not taken; after one that
 -- goes to body 0 none is evaluated; a sum that starts at +0 keeps no -0
 pub step-cases :
     from 5 3 (of-pair 5 6 1 ∷ of-pair 5 7 2 ∷ of-pair 6 0 4 ∷ of-pair 7 0 8 ∷ []) ∷ from 5 3 (of-pair 5 6 1 ∷ of-pair 5 0 2 ∷ of-pair 6 0 4 ∷ [])

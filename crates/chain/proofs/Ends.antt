@@ -18,9 +18,9 @@ use Rattle.segment.specs.declared.Evaluated.the-variants as evaluation
 use Rattle.table.specs.Segments.{seg}
 use Rattle.chain.specs.declared.Leg.{Leg}
 use Rattle.chain.specs.declared.Step.{Step}
-use Rattle.chain.specs.declared.Step.the-variants.{Blocked, Kept, Home, Refused}
+use Rattle.chain.specs.declared.Step.the-variants.{Blocked, Kept, Zero, Refused}
 use Rattle.chain.specs.declared.Next.the-variants.{Ended, Onward}
-use Rattle.chain.specs.Step.{Evaluation, leaves, goesHome, keptOr, met, seen, look, isEnd, stepIn, stepFrom}
+use Rattle.chain.specs.Step.{Evaluation, leaves, reachesZero, keptOr, met, seen, look, isEnd, stepIn, stepFrom}
 use Rattle.chain.specs.Walk.{noCoverage, onward, returns, advance, follow, walkFrom}
 use Rattle.chain.specs.When.{byTest, stuckAfter, Stuck}
 
@@ -44,25 +44,25 @@ module _ (ev : Evaluation) (segs : List Segment) (n : ℕ) where
               → follow (λ on. walkFrom ev segs n on left) (cond t (Ended (noCoverage (leg .start))) (Onward (onward leg hop))) ≡ noCoverage b
           back true e = ap noCoverage e
           back false e = ih (onward leg hop) e
-      go (Home x) ih e = absurd e
+      go (Zero x) ih e = absurd e
       go (Refused y) ih e = absurd e
 
 -- ---- a step is blocked exactly where no segment leaves the body
 abbrev some : Step → Bool
 some Blocked = false
 some (Kept hop) = true
-some (Home x) = true
+some (Zero x) = true
 some (Refused r) = true
 
 met-some : (kept : Step) (s : Segment) (x : State) → some (met kept s x) ≡ true
 unfolding met
-met-some kept s x = go (goesHome s) kept
+met-some kept s x = go (reachesZero s) kept
   where
-    go : (b : Bool) (k : Step) → some (cond b (Home x) (keptOr k (Kept (record { center = s .center; state = x })))) ≡ true
+    go : (b : Bool) (k : Step) → some (cond b (Zero x) (keptOr k (Kept (record { center = s .center; state = x })))) ≡ true
     go true k = refl
     go false Blocked = refl
     go false (Kept hop) = refl
-    go false (Home y) = refl
+    go false (Zero y) = refl
     go false (Refused y) = refl
 
 module _ (ev : Evaluation) (segs : List Segment) (leg : Leg) where

@@ -24,10 +24,10 @@ use Rattle.table.specs.Segments.{seg}
 use Rattle.chain.specs.declared.Leg.{Leg}
 use Rattle.chain.specs.declared.Hop.{Hop}
 use Rattle.chain.specs.declared.Step.{Step}
-use Rattle.chain.specs.declared.Step.the-variants.{Blocked, Kept, Home, Refused}
+use Rattle.chain.specs.declared.Step.the-variants.{Blocked, Kept, Zero, Refused}
 use Rattle.chain.specs.declared.Next.the-variants.{Ended, Onward}
-use Rattle.chain.specs.Step.{Evaluation, leaves, goesHome, keptOr, look, isEnd, stepIn, stepFrom}
-use Rattle.chain.specs.Walk.{chainLimit, noCoverage, onward, returns, advance, follow, walkFrom, isHome, toZero}
+use Rattle.chain.specs.Step.{Evaluation, leaves, reachesZero, keptOr, look, isEnd, stepIn, stepFrom}
+use Rattle.chain.specs.Walk.{chainLimit, noCoverage, onward, returns, advance, follow, walkFrom, isZero, toZero}
 use Rattle.chain.specs.When.{byTest, stuckAfter, Stuck, Past, RefusedAt, Failed}
 use Rattle.chain.proofs.Ends.{clash}
 use Rattle.chain.proofs.Walks.{zero-home, zero-walk}
@@ -42,13 +42,13 @@ not-state x r h = clash (cc)
 step-refusal : (r s : Refusal) → _≡_ {A = Step} (Refused r) (Refused s) → r ≡ s
 step-refusal r s h = cc
 
-not-home : {X : Type 0} (x : State) (r : Refusal) → _≡_ {A = Step} (Home x) (Refused r) → X
+not-home : {X : Type 0} (x : State) (r : Refusal) → _≡_ {A = Step} (Zero x) (Refused r) → X
 not-home x r h = clash (cc)
 
 kept-on : (kept : Step) (hop : Hop) → isEnd kept ≡ false → isEnd (keptOr kept (Kept hop)) ≡ false
 kept-on Blocked hop e = refl
 kept-on (Kept x) hop e = refl
-kept-on (Home x) hop e = e
+kept-on (Zero x) hop e = e
 kept-on (Refused x) hop e = e
 
 -- ---- a step: its scan is refused exactly where a segment refuses it
@@ -56,7 +56,7 @@ module _ (ev : Evaluation) (segs : List Segment) (leg : Leg) where
   -- what the next segment does to the scan
   data Look (kept : Step) (i : ℕ) : Type 0 where
     on : (next : Step) → look ev leg kept (seg segs i) i ≡ next → isEnd next ≡ false → Past ev segs leg i → Look kept i
-    home : (x : State) → look ev leg kept (seg segs i) i ≡ Home x → leaves (seg segs i) leg ≡ true → goesHome (seg segs i) ≡ true → Look kept i
+    home : (x : State) → look ev leg kept (seg segs i) i ≡ Zero x → leaves (seg segs i) leg ≡ true → reachesZero (seg segs i) ≡ true → Look kept i
     refused : (r : Refusal) → look ev leg kept (seg segs i) i ≡ Refused r → leaves (seg segs i) leg ≡ true → ev (seg segs i) i (leg .et) ≡ evaluation.Refused r → Look kept i
 
   looks : (kept : Step) (i : ℕ) → isEnd kept ≡ false → Look kept i
@@ -68,7 +68,7 @@ module _ (ev : Evaluation) (segs : List Segment) (leg : Leg) where
       go (evaluation.Refused r) h l = refused r (sym (look-seen ev leg kept (seg segs i) i (evaluation.Refused r) l h)) l h
       go (evaluation.State x) h l =
           let was = look-seen ev leg kept (seg segs i) i (evaluation.State x) l h in
-          by-test (goesHome (seg segs i)) (λ g. home x (sym was ∙ sym (met-home kept (seg segs i) x g)) l g)
+          by-test (reachesZero (seg segs i)) (λ g. home x (sym was ∙ sym (met-home kept (seg segs i) x g)) l g)
           (λ g.
           let hop : Hop = record { center = seg segs i .center; state = x } in
           on (keptOr kept (Kept hop)) (sym was ∙ sym (met-else kept (seg segs i) x kept hop g refl refl refl)) (kept-on kept hop e) (λ t. (g, (x, h))))
@@ -94,7 +94,7 @@ module _ (ev : Evaluation) (segs : List Segment) (leg : Leg) where
           → ((next : Step) → isEnd next ≡ false → ((j : ℕ) → j < suc i → Past ev segs leg j) → stepIn ev segs leg next (suc i) k ≡ Refused r → (j : ℕ) × RefusedAt ev segs n leg j r)
           → (j : ℕ) × RefusedAt ev segs n leg j r
       go (on next l x p) ih = ih next x (further i before p) (sym (turn kept next i k false l x) ∙ h)
-      go (home x l t g) ih = not-home x r (sym (turn kept (Home x) i k true l refl) ∙ h)
+      go (home x l t g) ih = not-home x r (sym (turn kept (Zero x) i k true l refl) ∙ h)
       go (refused y l t v) ih =
           let same = step-refusal y r (sym (turn kept (Refused y) i k true l refl) ∙ h) in
           (i, record { below = omega arith; leaving = t; gives = v ∙ ap evaluation.Refused same; past = before })
@@ -156,13 +156,13 @@ module _ (ev : Evaluation) (segs : List Segment) (n : ℕ) where
           back true f y = inr (leg .start, refl, refusal-eq _ r y)
           back false f y =
               ⊎-elim (λ w. inl (w .0, inr (hop, e, f, w .1))) (λ w. inr w) (ih (onward leg hop) y)
-      go ih (Home s) e x = not-state _ r x
+      go ih (Zero s) e x = not-state _ r x
       go ih (Refused y) e x = let w = refused-at leg r (e ∙ ap Refused (refusal-eq y r x)) in inl (w .0, inl (w .1))
 
   -- body 0 takes no step
-  pub zero-why : (leg : Leg) (r : Refusal) → toZero ev segs n leg ≡ evaluation.Refused r → (isHome leg ≡ false) × Ends leg chainLimit r
+  pub zero-why : (leg : Leg) (r : Refusal) → toZero ev segs n leg ≡ evaluation.Refused r → (isZero leg ≡ false) × Ends leg chainLimit r
   zero-why leg r h =
-      by-test (isHome leg) (λ e. not-state _ r (sym (zero-home ev segs n leg e) ∙ h))
+      by-test (isZero leg) (λ e. not-state _ r (sym (zero-home ev segs n leg e) ∙ h))
       (λ e. (e, walk-why leg chainLimit r (sym (zero-walk ev segs n leg e) ∙ h)))
 
   pub failed-given : (leg : Leg) (left i : ℕ) (r : Refusal) → Failed ev segs n leg left i r → (i < n) × (ev (seg segs i) i (leg .et) ≡ evaluation.Refused r)

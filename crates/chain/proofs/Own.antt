@@ -14,7 +14,7 @@ use Rattle.chain.specs.declared.Step.the-variants.{Blocked}
 use Rattle.chain.specs.declared.Next.{Next}
 use Rattle.chain.specs.declared.Next.the-variants.{Ended, Onward}
 use Rattle.chain.specs.Step.{Evaluation, leaves, seen, look, isEnd, stepIn, stepFrom}
-use Rattle.chain.specs.Walk.{chainLimit, advance, follow, walkFrom, isHome, toZero}
+use Rattle.chain.specs.Walk.{chainLimit, advance, follow, walkFrom, isZero, toZero}
 use Rattle.chain.specs.Touched.{TouchedIn, ofNext, TouchedOn}
 use Rattle.chain.proofs.Steps.{look-past}
 use Rattle.chain.proofs.Walks.{zero-home, zero-walk}
@@ -82,7 +82,7 @@ module _ (ev ev' : Evaluation) (segs : List Segment) where
         go (Onward on) ih p = ih on p
 
     -- body 0 takes no step
-    pub zero-alike : (leg : Leg) → (isHome leg ≡ false → TouchedOn ev segs n (Alike ev ev' segs) leg chainLimit) → toZero ev segs n leg ≡ toZero ev' segs n leg
+    pub zero-alike : (leg : Leg) → (isZero leg ≡ false → TouchedOn ev segs n (Alike ev ev' segs) leg chainLimit) → toZero ev segs n leg ≡ toZero ev' segs n leg
     zero-alike leg t =
-        by-test (isHome leg) (λ e. zero-home ev segs n leg e ∙ sym (zero-home ev' segs n leg e))
+        by-test (isZero leg) (λ e. zero-home ev segs n leg e ∙ sym (zero-home ev' segs n leg e))
         (λ e. zero-walk ev segs n leg e ∙ walk-alike leg chainLimit (t e) ∙ sym (zero-walk ev' segs n leg e))

@@ -12,8 +12,8 @@ use Rattle.table.specs.Segments.{seg}
 use Rattle.chain.specs.declared.Leg.{Leg}
 use Rattle.chain.specs.declared.Hop.{Hop}
 use Rattle.chain.specs.declared.Step.{Step}
-use Rattle.chain.specs.declared.Step.the-variants.{Blocked, Kept, Home}
-use Rattle.chain.specs.Step.{Evaluation, leaves, goesHome, keptOr, met, seen, look, isEnd, placeAfter, stepIn, stepFrom}
+use Rattle.chain.specs.declared.Step.the-variants.{Blocked, Kept, Zero}
+use Rattle.chain.specs.Step.{Evaluation, leaves, reachesZero, keptOr, met, seen, look, isEnd, placeAfter, stepIn, stepFrom}
 
 -- two hops are equal by their fields
 pub hop-eq : (a b : Hop) → a .center ≡ b .center → a .state ≡ b .state → a ≡ b
@@ -21,16 +21,16 @@ hop-eq a b p q = λ i. record { center = p i; state = q i }
 
 module _ (kept : Step) (s : Segment) (x : State) where
   -- the segment goes to body 0
-  pub met-home : goesHome s ≡ true → Home x ≡ met kept s x
+  pub met-home : reachesZero s ≡ true → Zero x ≡ met kept s x
   unfolding met
-  met-home e = sym (ap (λ (b : Bool). cond b (Home x) (keptOr kept (Kept (record { center = s .center; state = x })))) e)
+  met-home e = sym (ap (λ (b : Bool). cond b (Zero x) (keptOr kept (Kept (record { center = s .center; state = x })))) e)
 
   -- it goes elsewhere
-  pub met-else : (old : Step) (hop : Hop) → goesHome s ≡ false → kept ≡ old → hop .center ≡ s .center → hop .state ≡ x → keptOr old (Kept hop) ≡ met kept s x
+  pub met-else : (old : Step) (hop : Hop) → reachesZero s ≡ false → kept ≡ old → hop .center ≡ s .center → hop .state ≡ x → keptOr old (Kept hop) ≡ met kept s x
   unfolding met
   met-else old hop e o p q =
       ap₂ (λ (a : Step) (h : Hop). keptOr a (Kept h)) (sym o) (hop-eq hop (record { center = s .center; state = x }) p q)
-      ∙ sym (ap (λ (b : Bool). cond b (Home x) (keptOr kept (Kept (record { center = s .center; state = x })))) e)
+      ∙ sym (ap (λ (b : Bool). cond b (Zero x) (keptOr kept (Kept (record { center = s .center; state = x })))) e)
 
 module _ (ev : Evaluation) (leg : Leg) (kept : Step) (s : Segment) (i : ℕ) where
   -- the segment is passed over

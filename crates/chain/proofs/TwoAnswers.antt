@@ -13,7 +13,7 @@ use Rattle.chain.proofs.leaves as m-leaves
 use Rattle.chain.proofs.Step.place_after as m-step-place-after
 use Rattle.chain.proofs.look as m-look
 use Rattle.chain.proofs.advance as m-advance
-use Rattle.chain.proofs.is_home as m-is-home
+use Rattle.chain.proofs.is_zero as m-is-zero
 use Rattle.chain.proofs.is_over as m-is-over
 use Rattle.chain.proofs.end_of as m-end-of
 use Rattle.chain.proofs.leg_of as m-leg-of
@@ -31,8 +31,8 @@ module _ {M : Type 1} (𝓤 : URA M) (H : Heap 𝓤) (A : Atoms 𝓤) (mem : Mem
   pub two-advance : Determined 𝓤 m-advance.ended (m-advance.clauses 𝓤 H A mem run)
   two-advance κs a g r r' ws ws' = equal 𝓤 refl
 
-  pub two-is-home : Determined 𝓤 m-is-home.ended (m-is-home.clauses 𝓤 H A mem run)
-  two-is-home κs a g r r' ws ws' = equal 𝓤 refl
+  pub two-is-zero : Determined 𝓤 m-is-zero.ended (m-is-zero.clauses 𝓤 H A mem run)
+  two-is-zero κs a g r r' ws ws' = equal 𝓤 refl
 
   pub two-is-over : Determined 𝓤 m-is-over.ended (m-is-over.clauses 𝓤 H A mem run)
   two-is-over κs a g r r' ws ws' = equal 𝓤 refl

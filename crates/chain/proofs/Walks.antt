@@ -12,7 +12,7 @@ use Rattle.chain.specs.declared.Step.the-variants.{Kept}
 use Rattle.chain.specs.declared.Next.{Next}
 use Rattle.chain.specs.declared.Next.the-variants.{Ended, Onward}
 use Rattle.chain.specs.Step.{Evaluation, stepFrom}
-use Rattle.chain.specs.Walk.{chainLimit, noCoverage, onward, returns, advance, follow, walkFrom, isHome, toZero}
+use Rattle.chain.specs.Walk.{chainLimit, noCoverage, onward, returns, advance, follow, walkFrom, isZero, toZero}
 use Rattle.chain.specs.Steps.{endOf, begin}
 use Rattle.bits.proofs.Tests.{by-test}
 use Rattle.segment.specs.declared.Evaluated.{Evaluated}
@@ -40,11 +40,11 @@ module _ (ev : Evaluation) (segs : List Segment) (n : ℕ) (leg : Leg) where
   walk-step left less next e h = ap (walkFrom ev segs n leg) e ∙ ap (follow (λ on. walkFrom ev segs n on less)) h
 
   -- body 0 takes no step, and any other walks
-  pub zero-home : isHome leg ≡ true → toZero ev segs n leg ≡ evaluation.State (leg .total)
+  pub zero-home : isZero leg ≡ true → toZero ev segs n leg ≡ evaluation.State (leg .total)
   unfolding toZero
   zero-home e = ap (λ (b : Bool). cond b (evaluation.State (leg .total)) (walkFrom ev segs n leg chainLimit)) e
 
-  pub zero-walk : isHome leg ≡ false → toZero ev segs n leg ≡ walkFrom ev segs n leg chainLimit
+  pub zero-walk : isZero leg ≡ false → toZero ev segs n leg ≡ walkFrom ev segs n leg chainLimit
   unfolding toZero
   zero-walk e = ap (λ (b : Bool). cond b (evaluation.State (leg .total)) (walkFrom ev segs n leg chainLimit)) e
 
@@ -63,10 +63,10 @@ module _ (ev : Evaluation) (segs : List Segment) (n : ℕ) where
 
   pub begin-told : (leg : Leg) → ahead chainLimit (begin leg) ≡ toZero ev segs n leg
   unfolding begin
-  begin-told leg = by-test (isHome leg)
+  begin-told leg = by-test (isZero leg)
       (λ e. ap (λ (b : Bool). ahead chainLimit (cond b (Ended (evaluation.State (leg .total))) (Onward leg))) e ∙ sym (zero-home ev segs n leg e))
       (λ e. ap (λ (b : Bool). ahead chainLimit (cond b (Ended (evaluation.State (leg .total))) (Onward leg))) e ∙ sym (zero-walk ev segs n leg e))
 
-pub begin-at : (leg x : Leg) (b : Bool) → leg ≡ x → isHome leg ≡ b → cond b (Ended (evaluation.State (leg .total))) (Onward leg) ≡ begin x
+pub begin-at : (leg x : Leg) (b : Bool) → leg ≡ x → isZero leg ≡ b → cond b (Ended (evaluation.State (leg .total))) (Onward leg) ≡ begin x
 unfolding begin
 begin-at leg x b e h = ap (λ (y : Bool). cond y (Ended (evaluation.State (leg .total))) (Onward leg)) (sym h) ∙ ap begin e

@@ -12,7 +12,7 @@ use Rattle.segment.specs.declared.Evaluated.the-variants as evaluation
 use Rattle.table.specs.Segments.{isCovering, seg}
 use Rattle.chain.specs.declared.Leg.{Leg}
 use Rattle.chain.specs.declared.Step.{Step}
-use Rattle.chain.specs.declared.Step.the-variants.{Blocked, Kept, Home, Refused}
+use Rattle.chain.specs.declared.Step.the-variants.{Blocked, Kept, Zero, Refused}
 
 -- An evaluation of segments by their numbers at an epoch: `evaluated Spk k` for a kernel k.
 abbrev pub Evaluation : Type 0
@@ -23,21 +23,21 @@ abbrev pub leaves : Segment → Leg → Bool
 leaves s leg = sameZ (s .target) (leg .body) && isCovering s (leg .et)
 
 -- The segment's center is body 0.
-abbrev pub goesHome : Segment → Bool
-goesHome s = sameZ (s .center) (pos 0)
+abbrev pub reachesZero : Segment → Bool
+reachesZero s = sameZ (s .center) (pos 0)
 
 -- The first segment that was met stays.
 abbrev pub keptOr : Step → Step → Step
 keptOr Blocked next = next
 keptOr (Kept hop) next = Kept hop
-keptOr (Home x) next = Home x
+keptOr (Zero x) next = Zero x
 keptOr (Refused r) next = Refused r
 
 -- The scan with one more segment, whose state is x: the first whose center is 0 is taken, else the first.
 unfoldable pub met : Step → Segment → State → Step
-met kept s x = cond (goesHome s) (Home x) (keptOr kept (Kept (record { center = s .center; state = x })))
+met kept s x = cond (reachesZero s) (Zero x) (keptOr kept (Kept (record { center = s .center; state = x })))
 
--- The same by what evaluating it came to: any refusal ends all.
+-- The same by what evaluating it resulted in: any refusal ends all.
 abbrev pub seen : Step → Segment → Evaluated → Step
 seen kept s (evaluation.State x) = met kept s x
 seen kept s (evaluation.Refused r) = Refused r
@@ -50,7 +50,7 @@ look ev leg kept s i = cond (leaves s leg) (seen kept s (ev s i (leg .et))) kept
 abbrev pub isEnd : Step → Bool
 isEnd Blocked = false
 isEnd (Kept hop) = false
-isEnd (Home x) = true
+isEnd (Zero x) = true
 isEnd (Refused r) = true
 
 -- The place that the scan looks at next, of n.

@@ -10,9 +10,9 @@ use Rattle.segment.specs.declared.Evaluated.the-variants as evaluation
 use Rattle.chain.specs.declared.Leg.{Leg}
 use Rattle.chain.specs.declared.Next.{Next}
 use Rattle.chain.specs.declared.Next.the-variants.{Ended, Onward}
-use Rattle.chain.specs.Walk.{noCoverage, isHome}
+use Rattle.chain.specs.Walk.{noCoverage, isZero}
 
--- The walk has ended, or no step is left; what it then comes to; the leg that it goes on with, where it does.
+-- The walk has ended, or no step is left; what it then results in; the leg that it goes on with, where it does.
 abbrev pub isOver : Next → ℕ → Bool
 isOver (Ended e) left = true
 isOver (Onward leg) left = eqb left 0
@@ -27,4 +27,4 @@ legOf (Onward leg) = leg
 
 -- Where a walk starts: body 0 takes no step.
 unfoldable pub begin : Leg → Next
-begin leg = cond (isHome leg) (Ended (evaluation.State (leg .total))) (Onward leg)
+begin leg = cond (isZero leg) (Ended (evaluation.State (leg .total))) (Onward leg)

@@ -12,7 +12,7 @@ use Rattle.segment.specs.declared.Evaluated.the-variants as evaluation
 use Rattle.chain.specs.declared.Leg.{Leg}
 use Rattle.chain.specs.declared.Hop.{Hop}
 use Rattle.chain.specs.declared.Step.{Step}
-use Rattle.chain.specs.declared.Step.the-variants.{Blocked, Kept, Home, Refused}
+use Rattle.chain.specs.declared.Step.the-variants.{Blocked, Kept, Zero, Refused}
 use Rattle.chain.specs.declared.Next.{Next}
 use Rattle.chain.specs.declared.Next.the-variants.{Ended, Onward}
 use Rattle.chain.specs.Step.{Evaluation, stepFrom}
@@ -37,10 +37,10 @@ returns leg hop = sameZ (hop .center) (leg .start)
 abbrev pub advance : Leg → Step → Next
 advance leg Blocked = Ended (noCoverage (leg .body))
 advance leg (Kept hop) = cond (returns leg hop) (Ended (noCoverage (leg .start))) (Onward (onward leg hop))
-advance leg (Home x) = Ended (evaluation.State (plusState (leg .total) x))
+advance leg (Zero x) = Ended (evaluation.State (plusState (leg .total) x))
 advance leg (Refused r) = Ended (evaluation.Refused r)
 
--- What the walk comes to, where `go` says what it comes to from the next leg on.
+-- What the walk results in, where `go` says what it results in from the next leg on.
 abbrev pub follow : (Leg → Evaluated) → Next → Evaluated
 follow go (Ended e) = e
 follow go (Onward leg) = go leg
@@ -51,9 +51,9 @@ walkFrom ev segs n leg zero = noCoverage (leg .start)
 walkFrom ev segs n leg (suc left) = follow (λ on. walkFrom ev segs n on left) (advance leg (stepFrom ev segs n leg))
 
 -- The leg's body is body 0.
-abbrev pub isHome : Leg → Bool
-isHome leg = sameZ (leg .body) (pos 0)
+abbrev pub isZero : Leg → Bool
+isZero leg = sameZ (leg .body) (pos 0)
 
 -- The state of a leg's body about body 0. Body 0 itself takes no step.
 unfoldable pub toZero : Evaluation → List Segment → ℕ → Leg → Evaluated
-toZero ev segs n leg = cond (isHome leg) (evaluation.State (leg .total)) (walkFrom ev segs n leg chainLimit)
+toZero ev segs n leg = cond (isZero leg) (evaluation.State (leg .total)) (walkFrom ev segs n leg chainLimit)

@@ -16,8 +16,8 @@ use Rattle.table.specs.Segments.{seg}
 use Rattle.chain.specs.declared.Leg.{Leg}
 use Rattle.chain.specs.declared.Hop.{Hop}
 use Rattle.chain.specs.declared.Step.{Step}
-use Rattle.chain.specs.declared.Step.the-variants.{Blocked, Kept, Home, Refused}
-use Rattle.chain.specs.Step.{Evaluation, leaves, goesHome, stepFrom}
+use Rattle.chain.specs.declared.Step.the-variants.{Blocked, Kept, Zero, Refused}
+use Rattle.chain.specs.Step.{Evaluation, leaves, reachesZero, stepFrom}
 use Rattle.chain.specs.Walk.{onward, returns}
 
 -- The refusals of a segment's own evaluation: 12, 13 and 14.
@@ -38,7 +38,7 @@ byTest false A B = B
 abbrev pub stuckAfter : Leg → ℤ → (Leg → Type 0) → Step → Type 0
 stuckAfter leg b go Blocked = leg .body ≡ b
 stuckAfter leg b go (Kept hop) = byTest (returns leg hop) (leg .start ≡ b) (go (onward leg hop))
-stuckAfter leg b go (Home x) = ⊥
+stuckAfter leg b go (Zero x) = ⊥
 stuckAfter leg b go (Refused r) = ⊥
 
 -- A walk of at most so many steps is stuck at body b: the starting body, where no step is left.
@@ -49,7 +49,7 @@ Stuck ev segs n leg (suc left) b = stuckAfter leg b (λ on. Stuck ev segs n on l
 -- A step's scan goes past segment j: it doesn't leave the body, or it is evaluated to a state and its center is not body 0.
 abbrev pub Past : Evaluation → List Segment → Leg → ℕ → Type 0
 Past ev segs leg j =
-    leaves (seg segs j) leg ≡ true → (goesHome (seg segs j) ≡ false) × ((x : State) × (ev (seg segs j) j (leg .et) ≡ evaluation.State x))
+    leaves (seg segs j) leg ≡ true → (reachesZero (seg segs j) ≡ false) × ((x : State) × (ev (seg segs j) j (leg .et) ≡ evaluation.State x))
 
 -- A step is refused with r by segment i: it leaves the body and is evaluated to r, and the scan goes past every segment before it.
 pub record RefusedAt (ev : Evaluation) (segs : List Segment) (n : ℕ) (leg : Leg) (i : ℕ) (r : Refusal) : Type 0 where

@@ -5,8 +5,8 @@ ghost use Prim.Native.Nat.{_<_};
 ghost use Rattle.daf.specs.declared.Family.the-variants.{Spk};
 ghost use Rattle.segment.specs.Evaluating.{evaluated};
 ghost use Rattle.table.specs.Places.{lentLimit};
-ghost use Rattle.chain.specs.Step.{leaves, goesHome, met, look, placeAfter};
-ghost use Rattle.chain.specs.Walk.{noCoverage, onward, returns, advance, isHome};
+ghost use Rattle.chain.specs.Step.{leaves, reachesZero, met, look, placeAfter};
+ghost use Rattle.chain.specs.Walk.{noCoverage, onward, returns, advance, isZero};
 ghost use Rattle.chain.specs.Steps.{isOver, endOf, legOf};
 use daf::Family;
 use frame::State;
@@ -33,15 +33,15 @@ pub struct Hop {
     pub state: State,
 }
 
-// What a step's scan has come to: no segment yet, the first that it met, one that goes to body 0, or a refusal. The last two end it.
+// What a step's scan has resulted in: no segment yet, the first that it met, one that goes to body 0, or a refusal. The last two end it.
 pub enum Step {
     Blocked,
     Kept(Hop),
-    Home(State),
+    Zero(State),
     Refused(Refusal),
 }
 
-// What the walk comes to after a step: its end, or the next leg.
+// What the walk results in after a step: its end, or the next leg.
 pub enum Next {
     Ended(Evaluated),
     Onward(Leg),
@@ -55,8 +55,8 @@ pub fn leaves(s: Segment, leg: Leg) -> bool
 }
 
 // The segment goes to body 0.
-fn goes_home(s: Segment) -> bool
-    ensures { λ r. ⌜ r ≡ goesHome s ⌝ }
+fn reaches_zero(s: Segment) -> bool
+    ensures { λ r. ⌜ r ≡ reachesZero s ⌝ }
 {
     s.center == 0
 }
@@ -66,8 +66,8 @@ impl Step {
     fn met(self, s: Segment, state: State) -> Step
         ensures { λ r. ⌜ r ≡ met self s state ⌝ }
     {
-        if goes_home(s) {
-            return Step::Home(state);
+        if reaches_zero(s) {
+            return Step::Zero(state);
         }
         match self {
             Step::Blocked => Step::Kept(Hop {
@@ -75,7 +75,7 @@ impl Step {
                 state: state,
             }),
             Step::Kept(hop) => Step::Kept(hop),
-            Step::Home(x) => Step::Home(x),
+            Step::Zero(x) => Step::Zero(x),
             Step::Refused(r) => Step::Refused(r),
         }
     }
@@ -88,7 +88,7 @@ impl Step {
         match self {
             Step::Blocked => i + 1,
             Step::Kept(_) => i + 1,
-            Step::Home(_) => n,
+            Step::Zero(_) => n,
             Step::Refused(_) => n,
         }
     }
@@ -147,7 +147,7 @@ pub fn advance(leg: Leg, step: Step) -> Next
     match step {
         Step::Blocked => Next::Ended(blocked(leg)),
         Step::Refused(r) => Next::Ended(Evaluated::Refused(r)),
-        Step::Home(x) => Next::Ended(Evaluated::State(leg.total.plus(x))),
+        Step::Zero(x) => Next::Ended(Evaluated::State(leg.total.plus(x))),
         Step::Kept(hop) => {
             if returns(leg, hop) {
                 return Next::Ended(no_way(leg));
@@ -158,8 +158,8 @@ pub fn advance(leg: Leg, step: Step) -> Next
 }
 
 // The leg's body is body 0.
-pub fn is_home(leg: Leg) -> bool
-    ensures { λ r. ⌜ r ≡ isHome leg ⌝ }
+pub fn is_zero(leg: Leg) -> bool
+    ensures { λ r. ⌜ r ≡ isZero leg ⌝ }
 {
     leg.body == 0
 }
@@ -176,7 +176,7 @@ pub fn is_over(at: Next, left: u32) -> bool
     }
 }
 
-// What a walk that is over comes to.
+// What a walk that is over results in.
 pub fn end_of(at: Next) -> Evaluated
     ensures { λ r. ⌜ r ≡ endOf at ⌝ }
 {

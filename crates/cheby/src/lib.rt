@@ -480,7 +480,7 @@ pub fn type2_at(kernel: &[u8], p: usize, n: usize, et: f64) -> Cheby
     Cheby::Value(state2_any(kernel, p, n, et))
 }
 
-// The type 3 record at byte p: the velocity has series of its own, behind those of the position.
+// The type 3 record at byte p: the velocity has series of its own, after those of the position.
 pub fn type3_at(kernel: &[u8], p: usize, n: usize, et: f64) -> State
     requires { ⌜ p + 8 * (2 + 6 * n) ≤ length (now kernel) ⌝ }
     ensures { λ r. ⌜ r ≡ type3Of (now (kernel .entry)) p n et ⌝ }

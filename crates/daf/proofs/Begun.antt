@@ -15,7 +15,7 @@ use Rattle.daf.specs.FileRecord.{fward}
 use Rattle.daf.specs.Walk.{Walk, Records, PastEnd, Twice, Endless, walk, recordsIn, isPastEnd, isTwice}
 use Rattle.daf.specs.Summaries.{anyOver25, total, places}
 use Rattle.daf.specs.Opening.{cases, dafOf, opening, recordsOf}
-use Rattle.daf.specs.Reading.{along, Sound}
+use Rattle.daf.specs.Steps.{along, Sound}
 use Rattle.daf.specs.declared.Family.{Family}
 use Rattle.daf.specs.declared.Daf.{Daf}
 use Rattle.daf.specs.declared.Opened.{Opened}
@@ -40,7 +40,7 @@ module _ (f : Family) (limit : ℕ) (k : List ℕ) where
   unfolding opening
   refused-only i l e = given-only Refused (Accepted (dafOf k (fward k))) one-refusal (no-refusal (dafOf k (fward k))) (cases f limit k) i tt l e
 
-  -- the cases have the paper's numbers, in the paper's order
+  -- the cases have the numbers of RULES, "Refusals", in the order of "Opening"
   pub numbered : map (λ (c : Case). numberOf (c .gives)) (cases f limit k) ≡ 1 ∷ 2 ∷ 3 ∷ 4 ∷ 5 ∷ 6 ∷ 7 ∷ 8 ∷ []
   numbered = refl
 

@@ -1,4 +1,4 @@
--- Laws of the counts of a walk that was accepted, and of the opening behind the file record. Assumes nothing.
+-- Laws of the counts of a walk that was accepted, and of the opening after the file record. Assumes nothing.
 use Prim.Native.Nat.{ℕ, zero, suc, _+_, _-_, _*_, _/_, _≤_, _<_}
 use mathlib.Core.Path.{_≡_, refl, sym, ap, _∙_, subst}
 use mathlib.Core.Bool.{Bool, true, false, cond, _||_}
@@ -12,7 +12,7 @@ use Rattle.refusal.specs.declared.Refusal.{Refusal}
 use Rattle.refusal.specs.declared.Refusal.the-variants.{CountOver25, TooManySummaries}
 use Rattle.daf.specs.Walk.{Walk, Records, PastEnd, Twice, Endless, nextOf, countOf, pastEnd, walk}
 use Rattle.daf.specs.Summaries.{anyOver25, total}
-use Rattle.daf.specs.Reading.{walkedOf, along, Sound, countedOf, walkOpened}
+use Rattle.daf.specs.Steps.{walkedOf, along, Sound, countedOf, walkOpened}
 use Rattle.daf.specs.declared.Walked.{Walked}
 use Rattle.daf.specs.declared.Walked.the-variants.{Records as Counted, Refused as Stopped}
 use Rattle.daf.specs.declared.Opened.{Opened}
@@ -59,7 +59,7 @@ module _ (k : List ℕ) where
   unfolding total
   total-none r left e = ap (total k) (along-none r left e)
 
-  -- ---- what the counts come to
+  -- ---- what the counts result in
   module _ (first n limit : ℕ) where
     pub counted-over : anyOver25 k (along k first n) ≡ true → countedOf k first n limit ≡ Refused CountOver25
     unfolding countedOf

@@ -14,7 +14,7 @@ use Rattle.refusal.proofs.Exactly.{answer-only, answer-where}
 use Rattle.daf.specs.FileRecord.{fward}
 use Rattle.daf.specs.Walk.{nextOf, countOf}
 use Rattle.daf.specs.Summaries.{anyOver25, total, place, placesIn, places}
-use Rattle.daf.specs.Reading.{along, Sound, cursor, seekOf, nextCursor, remaining, Standing}
+use Rattle.daf.specs.Steps.{along, Sound, cursor, seekOf, nextCursor, remaining, Standing}
 use Rattle.daf.specs.declared.Place.{Place}
 use Rattle.daf.specs.declared.Cursor.{Cursor}
 use Rattle.daf.proofs.Counting.{over-no, over-none, sound-here, sound-next}

@@ -13,7 +13,7 @@ use Rattle.refusal.specs.Order.{Case, firstOf}
 use Rattle.refusal.proofs.Exactly.{given-where, answer-where, first-append, first-through}
 use Rattle.daf.specs.FileRecord.{spells, idWord, formatWord, shaped, fileCases, fward, fileRecord}
 use Rattle.daf.specs.Opening.{walkCases, cases, dafOf, opening}
-use Rattle.daf.specs.Reading.{walkOpened}
+use Rattle.daf.specs.Steps.{walkOpened}
 use Rattle.daf.specs.declared.Family.{Family}
 use Rattle.daf.specs.declared.Head.{Head}
 use Rattle.daf.specs.declared.Head.the-variants.{First, Refused as Headless}

@@ -1,4 +1,4 @@
--- The walk that counts its steps refuses exactly where a record is come to a second time: the kernel has no more records than that.
+-- The walk that counts its steps refuses exactly where a record is reached a second time: the kernel has no more records than that.
 -- Assumes nothing.
 use Prim.Native.Nat.{ℕ, zero, suc, _+_, _*_, _/_, _≤_, _<_}
 use mathlib.Core.Path.{_≡_, refl, sym, ap, _∙_, subst}
@@ -11,7 +11,7 @@ use lib.ListN.{length}
 use Rattle.bits.proofs.Tests.{by-test, or-left, or-right, or-none}
 use Rattle.refusal.specs.declared.Refusal.the-variants.{RecordPastEnd, RecordTwice}
 use Rattle.daf.specs.Walk.{Walk, Records, PastEnd, Twice, Endless, nextOf, pastEnd, among, before, walkFrom, walk}
-use Rattle.daf.specs.Reading.{walkedOf, along, Sound}
+use Rattle.daf.specs.Steps.{walkedOf, along, Sound}
 use Rattle.daf.specs.declared.Walked.{Walked}
 use Rattle.daf.specs.declared.Walked.the-variants.{Records as Counted, Refused as Stopped}
 use Rattle.daf.proofs.Pigeons.{Distinct, Below, distinct-none, distinct-more, below-none, below-more, pigeons}
@@ -88,7 +88,7 @@ module _ (k : List ℕ) where
 
   -- ---- both walks agree
 
-  -- what a walk comes to, with n records behind it
+  -- what a walk results in, with n records done
   lengthened : ℕ → Walk → Walked
   lengthened n (Records rs) = Counted (n + length rs)
   lengthened n PastEnd = Stopped RecordPastEnd

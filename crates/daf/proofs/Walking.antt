@@ -11,7 +11,7 @@ use lib.ListN.{length}
 use Rattle.bits.proofs.Tests.{by-test, or-left, or-right, or-none}
 use Rattle.refusal.specs.declared.Refusal.the-variants.{RecordPastEnd, RecordTwice}
 use Rattle.daf.specs.Walk.{Walk, Records, PastEnd, Twice, Endless, nextOf, pastEnd, among, before, walkFrom, walk, recordsIn}
-use Rattle.daf.specs.Reading.{walkedOf, along, Sound}
+use Rattle.daf.specs.Steps.{walkedOf, along, Sound}
 use Rattle.daf.specs.declared.Walked.{Walked}
 use Rattle.daf.specs.declared.Walked.the-variants.{Records as Counted, Refused as Stopped}
 
@@ -28,7 +28,7 @@ past-end k r =
 pub stands : (k : List ℕ) (r : ℕ) → pastEnd k r ≡ false → 1024 * (r + 1) ≤ length k
 stands k r f = ltb-false (length k) (1024 * (r + 1)) (past-end k r ∙ f)
 
--- ---- the walk as the code runs it: n records are behind it, and it goes on for at most `left` more
+-- ---- the walk as the code runs it: n records are done, and it goes on for at most `left` more
 
 pub counting : List ℕ → ℕ → ℕ → ℕ → Walked
 counting k n zero r = cond (eqb r 0) (Counted n) (cond (pastEnd k r) (Stopped RecordPastEnd) (Stopped RecordTwice))
@@ -57,11 +57,11 @@ module _ (k : List ℕ) (n : ℕ) where
   unfolding counting
   counting-on left l r s e p = ap (λ (m : ℕ). counting k n m r) s ∙ rw (ne-eqb r 0 e, p)
 
--- what `next_record` and `count_of` ask of a record that the walk came to
+-- what `next_record` and `count_of` ask of a record that the walk reached
 pub readable : (k : List ℕ) (r : ℕ) → (r ≡ 0 → ⊥) → pastEnd k r ≡ false → (1 ≤ r) × (1024 * (r + 1) ≤ length k)
 readable k r e p = let h = stands k r p in (omega arith, omega arith)
 
--- the steps left, counted from the records behind
+-- the steps left, counted from the records done
 pub counting-start : (k : List ℕ) (most r : ℕ) → counting k 0 most r ≡ counting k 0 (most - 0) r
 counting-start k most r = ap (λ (l : ℕ). counting k 0 l r) (same most)
   where

@@ -51,6 +51,6 @@ fileCases f k =
 abbrev pub fward : List ℕ → ℕ
 fward k = le32 k 76
 
--- What the file record comes to.
+-- What the file record results in.
 unfoldable pub fileRecord : Family → List ℕ → Head
 fileRecord f k = firstOf (fileCases f k) Refused (First (fward k))

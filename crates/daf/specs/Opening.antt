@@ -1,4 +1,4 @@
--- What opening a DAF comes to: refusals 1 to 8 in their order, else its first summary record, its records and its summaries.
+-- What opening a DAF results in: refusals 1 to 8 in their order, else its first summary record, its records and its summaries.
 use Prim.Native.Nat.{ℕ}
 use mathlib.Core.List.{List, [], _∷_, _++_}
 use lib.Dec.{ltb}

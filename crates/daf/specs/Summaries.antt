@@ -44,7 +44,7 @@ summaryAt p = recordAt (p .rec) + 24 + 40 * p .index
 abbrev pub nameAt : Place → ℕ
 nameAt p = recordAt (p .rec + 1) + 40 * p .index
 
--- Whole number j of the summary at byte s, behind its two doubles.
+-- Whole number j of the summary at byte s, after its two doubles.
 abbrev pub wholeAt : List ℕ → ℕ → ℕ → ℤ
 wholeAt k s j = signed32 (le32 k (s + (16 + 4 * j)))
 

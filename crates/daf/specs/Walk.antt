@@ -28,7 +28,7 @@ abbrev pub among : ℕ → List ℕ → Bool
 among r [] = false
 among r (x ∷ xs) = eqb r x || among r xs
 
--- What a walk comes to: its records in file order, a record that ends past the kernel, or a record that it came to before.
+-- What a walk results in: its records in file order, a record that ends past the kernel, or a record that it reached before.
 pub data Walk : Type 0 where
   Records : List ℕ → Walk
   PastEnd : Walk

@@ -1,16 +1,33 @@
-// The DAF container behind every binary kernel: the file record, the walk over the summary records, their summaries, names and addresses.
+// The DAF container of every binary kernel: the file record, the walk over the summary records, their summaries, names and addresses.
 // The kernel is lent to every call, and nothing is copied out of it but numbers.
 ghost use mathlib.Core.Path.{_≡_};
 ghost use Prim.Native.Nat.{_+_, _*_, _≤_, _<_};
 ghost use lib.ListN.{length};
-ghost use Rattle.daf.specs.FileRecord.{spells, niOf, shaped, fileRecord};
-ghost use Rattle.daf.specs.Walk.{nextOf, countOf, pastEnd, walk};
-ghost use Rattle.daf.specs.Summaries.{place, spkSummary, pckSummary, summaryOf};
+ghost use Rattle.daf.specs.FileRecord.{niOf, fileRecord};
+ghost use Rattle.daf.specs.Walk.{walk};
+ghost use Rattle.daf.specs.Summaries.{place, summaryOf};
 ghost use Rattle.daf.specs.Opening.{opening};
-ghost use Rattle.daf.specs.Names.{nameOf, ascii, kept, isNul, isSpace};
+ghost use Rattle.daf.specs.Names.{nameOf};
 ghost use Rattle.daf.specs.Addresses.{doubleOfAddress, wholeDoubles};
-ghost use Rattle.daf.specs.Reading.{Sound, walkedOf, walkOpened, countedOf, seekOf, Standing, nextCursor};
+ghost use Rattle.daf.specs.Steps.{Sound, walkedOf, walkOpened, countedOf, seekOf, Standing, nextCursor};
+
+mod file_words;
+mod names;
+mod summaries;
+mod walk_steps;
+
+use file_words::shaped;
+use file_words::spells;
+use names::is_ascii;
+use names::without_nuls;
+use names::without_spaces;
 use refusal::Refusal;
+use summaries::pck_summary;
+use summaries::seek;
+use summaries::spk_summary;
+use walk_steps::count_of;
+use walk_steps::next_record;
+use walk_steps::past_end;
 
 // Which kernel a DAF is: it decides what a summary holds.
 pub enum Family {
@@ -42,13 +59,13 @@ impl Daf {
     pub const RECORD: usize = 1024;
 }
 
-// What the file record comes to: the first summary record, or a refusal.
+// What the file record results in: the first summary record, or a refusal.
 pub enum Head {
     First(u32),
     Refused(Refusal),
 }
 
-// What the walk comes to: how many records it goes over, or a refusal.
+// What the walk results in: how many records it goes over, or a refusal.
 pub enum Walked {
     Records(usize),
     Refused(Refusal),
@@ -78,37 +95,12 @@ pub struct Summary {
     pub name_at: usize,
 }
 
-// The summary that comes next: its place, how many its record holds, and how many records are left behind that one.
+// The summary that comes next: its place, how many its record holds, and how many records are left after that one.
 pub struct Cursor {
     pub rec: u32,
     pub index: usize,
     pub count: usize,
     pub left: usize,
-}
-
-// The word stands in the kernel from byte `at` on.
-fn spells(kernel: &[u8], at: usize, word: &[u8]) -> bool
-    requires { ⌜ at + length (now word) ≤ length (now kernel) ⌝ }
-    ensures { λ r. ⌜ r ≡ spells (now (kernel .entry)) at (now (word .entry)) ⌝ }
-{
-    let mut i = word.len();
-    while 0 < i {
-        let k = i - 1;
-        if kernel[at + k] != word[k] {
-            return false;
-        }
-        i = k;
-    }
-    true
-}
-
-// ND and NI are the family's.
-fn shaped(kernel: &[u8], family: Family) -> bool
-    requires { ⌜ 1024 ≤ length (now kernel) ⌝ }
-    ensures { λ r. ⌜ r ≡ shaped family (now (kernel .entry)) ⌝ }
-{
-    let ni = family.ni();
-    bits::le_u32(kernel, 8) == 2 && bits::le_u32(kernel, 12) == ni
 }
 
 // The file record: refusals 1 to 4, else FWARD.
@@ -132,31 +124,6 @@ pub fn file_record(kernel: &[u8], family: Family) -> Head
         return Head::Refused(Refusal::OtherSummaries);
     }
     Head::First(bits::le_u32(kernel, 76))
-}
-
-// Summary record r or the name record after it ends past the kernel.
-fn past_end(kernel: &[u8], r: u32) -> bool
-    ensures { λ b. ⌜ b ≡ pastEnd (now (kernel .entry)) r ⌝ }
-{
-    kernel.len() < Daf::RECORD * (r as usize + 1)
-}
-
-// NEXT of summary record r.
-fn next_record(kernel: &[u8], r: u32) -> u32
-    requires { ⌜ (1 ≤ r) × (1024 * (r + 1) ≤ length (now kernel)) ⌝ }
-    ensures { λ n. ⌜ n ≡ nextOf (now (kernel .entry)) r ⌝ }
-{
-    let at = Daf::RECORD * (r as usize - 1);
-    bits::cut_u32(bits::double_at(kernel, at))
-}
-
-// NSUM of summary record r.
-fn count_of(kernel: &[u8], r: u32) -> u64
-    requires { ⌜ (1 ≤ r) × (1024 * (r + 1) ≤ length (now kernel)) ⌝ }
-    ensures { λ n. ⌜ n ≡ countOf (now (kernel .entry)) r ⌝ }
-{
-    let at = Daf::RECORD * (r as usize - 1) + 16;
-    bits::cut_u64(bits::double_at(kernel, at))
 }
 
 // The walk from a first summary record on: refusals 5 and 6, else how many records there are.
@@ -207,7 +174,7 @@ fn counted(kernel: &[u8], first: u32, n: usize, limit: usize) -> Opened
     })
 }
 
-// The opening behind the file record: refusals 5 to 8.
+// The opening after the file record: refusals 5 to 8.
 fn open_from(kernel: &[u8], first: u32, limit: usize) -> Opened
     ensures { λ r. ⌜ r ≡ walkOpened limit (now (kernel .entry)) first ⌝ }
 {
@@ -229,42 +196,6 @@ pub fn open(kernel: &[u8], family: Family, limit: usize) -> Opened
     }
 }
 
-// The summary of an SPK whose bytes start at `at`.
-fn spk_summary(kernel: &[u8], at: usize, name_at: usize) -> Summary
-    requires { ⌜ at + 40 ≤ length (now kernel) ⌝ }
-    ensures { λ r. ⌜ r ≡ spkSummary (now (kernel .entry)) at «name_at» ⌝ }
-{
-    Summary {
-        first: bits::double_at(kernel, at),
-        last: bits::double_at(kernel, at + 8),
-        target: bits::le_i32(kernel, at + 16),
-        center: bits::le_i32(kernel, at + 20),
-        frame: bits::le_i32(kernel, at + 24),
-        data_type: bits::le_i32(kernel, at + 28),
-        start: bits::le_i32(kernel, at + 32),
-        end: bits::le_i32(kernel, at + 36),
-        name_at: name_at,
-    }
-}
-
-// The summary of a PCK whose bytes start at `at`.
-fn pck_summary(kernel: &[u8], at: usize, name_at: usize) -> Summary
-    requires { ⌜ at + 40 ≤ length (now kernel) ⌝ }
-    ensures { λ r. ⌜ r ≡ pckSummary (now (kernel .entry)) at «name_at» ⌝ }
-{
-    Summary {
-        first: bits::double_at(kernel, at),
-        last: bits::double_at(kernel, at + 8),
-        target: bits::le_i32(kernel, at + 16),
-        center: 0,
-        frame: bits::le_i32(kernel, at + 20),
-        data_type: bits::le_i32(kernel, at + 24),
-        start: bits::le_i32(kernel, at + 28),
-        end: bits::le_i32(kernel, at + 32),
-        name_at: name_at,
-    }
-}
-
 // Summary `index` of record `rec`.
 pub fn summary_at(kernel: &[u8], family: Family, rec: u32, index: usize) -> Summary
     requires { ⌜ (1 ≤ rec) × (1024 * (rec + 1) ≤ length (now kernel)) × (index < 25) ⌝ }
@@ -275,34 +206,6 @@ pub fn summary_at(kernel: &[u8], family: Family, rec: u32, index: usize) -> Summ
     match family {
         Family::Spk => spk_summary(kernel, at, name_at),
         Family::Pck => pck_summary(kernel, at, name_at),
-    }
-}
-
-// The first summary of `left` records from r on.
-fn seek(kernel: &[u8], first: u32, records: usize) -> Cursor
-    requires { ⌜ Sound (now kernel) first records ⌝ }
-    ensures { λ c. ⌜ c ≡ seekOf (now (kernel .entry)) first records ⌝ }
-{
-    let mut r = first;
-    let mut left = records;
-    while 0 < left {
-        let count = count_of(kernel, r);
-        if 0 < count {
-            return Cursor {
-                rec: r,
-                index: 0,
-                count: count as usize,
-                left: left - 1,
-            };
-        }
-        r = next_record(kernel, r);
-        left -= 1;
-    }
-    Cursor {
-        rec: 0,
-        index: 0,
-        count: 0,
-        left: 0,
     }
 }
 
@@ -319,7 +222,7 @@ impl Daf {
 }
 
 impl Cursor {
-    // The summary behind this one.
+    // The summary after this one.
     pub fn next(self, kernel: &[u8]) -> Cursor
         requires { ⌜ Standing (now kernel) self × (self .index < self .count) ⌝ }
         ensures { λ c. ⌜ c ≡ nextCursor (now (kernel .entry)) self ⌝ }
@@ -339,67 +242,6 @@ impl Cursor {
         let r = next_record(kernel, rec);
         seek(kernel, r, left)
     }
-}
-
-// How many of n bytes from `at` on are left without trailing NULs.
-fn without_nuls(kernel: &[u8], at: usize, n: usize) -> usize
-    requires { ⌜ at + n ≤ length (now kernel) ⌝ }
-    ensures { λ r. ⌜ r ≡ kept isNul (now (kernel .entry)) at n ⌝ }
-{
-    let mut i = n;
-    while 0 < i {
-        let k = i - 1;
-        if kernel[at + k] != 0 {
-            return i;
-        }
-        i = k;
-    }
-    0
-}
-
-// Bytes 9 to 13 and 32.
-fn is_space(b: u8) -> bool
-    ensures { λ r. ⌜ r ≡ isSpace b ⌝ }
-{
-    if b == 32 {
-        return true;
-    }
-    if b < 9 {
-        return false;
-    }
-    b <= 13
-}
-
-// How many of n bytes from `at` on are left without trailing spaces.
-fn without_spaces(kernel: &[u8], at: usize, n: usize) -> usize
-    requires { ⌜ at + n ≤ length (now kernel) ⌝ }
-    ensures { λ r. ⌜ r ≡ kept isSpace (now (kernel .entry)) at n ⌝ }
-{
-    let mut i = n;
-    while 0 < i {
-        let k = i - 1;
-        if !is_space(kernel[at + k]) {
-            return i;
-        }
-        i = k;
-    }
-    0
-}
-
-// The n bytes from `at` on are below 128.
-fn is_ascii(kernel: &[u8], at: usize, n: usize) -> bool
-    requires { ⌜ at + n ≤ length (now kernel) ⌝ }
-    ensures { λ r. ⌜ r ≡ ascii (now (kernel .entry)) at n ⌝ }
-{
-    let mut i = n;
-    while 0 < i {
-        let k = i - 1;
-        if 128 <= kernel[at + k] {
-            return false;
-        }
-        i = k;
-    }
-    true
 }
 
 // The name whose 40 bytes start at `at`: that part of the lent kernel itself, for any place.

@@ -44,7 +44,7 @@ module _ (k : List ℕ) (before : List Segment) (spare : List ℕ) (segs : List 
   abbrev bare : Lending → lent.Lending
   bare l = (l .0, l .1 .1)
 
-  -- what a question comes to
+  -- what a question results in
   one : (l : Lending) → l .0 ≡ segs → l .1 .0 ≡ ix → (m : Memory)
       → repliedWith (limitOf (length (l .0))) (evaluated Spk k) (l .0) n (l .1 .0) m (l .1 .1) ≡ replied (limitOf (length (l .0))) (evaluated Spk k) (l .0) n m (l .1 .1)
   one l e f m =

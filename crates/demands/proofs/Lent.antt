@@ -225,7 +225,7 @@ pub refused-stays : RefusedStays
 refused-stays f k before r e = table-refused f (limitOf (length before)) k before r e
 
 -- ---- own bytes
-agrees : (k k' : List ℕ) (segs : List Segment) (i : ℕ) → SameDoubles k k' (seg segs i) → AgreesAt k k' segs i
+pub agrees : (k k' : List ℕ) (segs : List Segment) (i : ℕ) → SameDoubles k k' (seg segs i) → AgreesAt k k' segs i
 agrees k k' segs i g = record { here = g .here; there = g .there; same = g .same }
 
 pub lent-own-evaluated : LentOwnEvaluated

@@ -3,3 +3,4 @@ pub mod ByValue
 pub mod Lent
 pub mod Statements
 pub mod Indexed
+pub mod Outputs

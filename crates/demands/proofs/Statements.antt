@@ -1,8 +1,8 @@
 -- The theorems on usage statements. Assumes nothing.
 use Prim.Native.Nat.{ℕ, _+_, _<_}
-use mathlib.Core.Path.{_≡_, sym, ap, _∙_}
+use mathlib.Core.Path.{_≡_, refl, sym, ap, _∙_}
 use mathlib.Core.Bool.{Bool, true, false, cond}
-use mathlib.Core.List.{List, _++_}
+use mathlib.Core.List.{List, [], _∷_, _++_, map, append-assoc, append-nil}
 use native.Mathlib.Omega.{arith}
 use lib.Dec.{ltb}
 use lib.ListN.{length, getD, length-map}
@@ -20,9 +20,13 @@ use Rattle.tally.proofs.Exactly.{by-number, bad-where, bad-only, crowded-where,
 use Rattle.tally.proofs.Same.{has, has-suppliers, has-place, has-there, named-once, adds-up}
 use Rattle.tally.proofs.Merge.{Fit, faultless-fit, merge-law}
 use Rattle.tally.proofs.Permuted.{count-naming, permuted}
+use Rattle.lines.specs.Text.{space}
+use Rattle.lines.specs.Lines.{textLines}
+use Rattle.lines.proofs.Lines.{OneLine, ended, in-front, alone, word, decimal-plain}
 use Rattle.streams.specs.Input.{inputLimit}
-use Rattle.account.proofs.Lines.{refused-text, stated-text, text-of, program-text}
-use Rattle.demands.specs.Statements.{Accepted, linesIn, payee, due, Itemised, ItemisedAlways, ExactlyWhen, NoLine, Merge, AnyOrder}
+use Rattle.statement_text.specs.Text.{lineText, linesText, totalText}
+use Rattle.statement_text.proofs.Lines.{refused-text, stated-text, text-of, program-text}
+use Rattle.demands.specs.Statements.{Accepted, linesIn, payee, due, Itemised, ItemisedAlways, ExactlyWhen, NoLine, StatementLines, Merge, AnyOrder}
 
 -- the suppliers and counts of a file's lines
 payee-at : (file : List ℕ) (k : ℕ) → payee file k ≡ getD (suppliersOf file (recordsIn file)) k 0
@@ -78,6 +82,28 @@ no-line file = (
   λ h. program-text file true (lt-ltb inputLimit (length file) h),
   λ h. program-text file false (le-ltb inputLimit (length file) h),
 )
+
+-- ---- read line by line
+line-line : (l : Line) → OneLine (lineText l)
+line-line l = in-front (decimal-plain (l .supplier)) (in-front (word (space ∷ []) refl) (in-front (decimal-plain (l .count)) ended))
+
+total-line : (n : ℕ) → OneLine (totalText n)
+total-line n = in-front (word (116 ∷ 111 ∷ 116 ∷ 97 ∷ 108 ∷ space ∷ []) refl) (in-front (decimal-plain n) ended)
+
+lines-then : (ls : List Line) (rest : List ℕ) → textLines (linesText ls ++ rest) ≡ map lineText ls ++ textLines rest
+unfolding linesText
+lines-then [] rest = refl
+lines-then (l ∷ ls) rest =
+    ap textLines (append-assoc (lineText l) (linesText ls) rest)
+    ∙ line-line l .first (linesText ls ++ rest)
+    ∙ ap (λ (t : List (List ℕ)). lineText l ∷ t) (lines-then ls rest)
+
+pub statement-lines : StatementLines
+statement-lines file ok =
+    ap textLines (itemised file ok .text)
+    ∙ lines-then (linesIn file) (totalText (recordsIn file))
+    ∙ ap (λ (t : List (List ℕ)). map lineText (linesIn file) ++ t)
+    (alone (total-line (recordsIn file)))
 
 -- an accepted file has no broken record
 fit : (file : List ℕ) → Accepted file → Fit file

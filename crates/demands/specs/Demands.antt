@@ -1,5 +1,5 @@
 -- What is proved beyond the contracts, as a ledger keeper reads it. The contracts say what each function returns: `opened` is what an opening
--- returns, `replied` what a question with a memory returns, `evaluated` what a segment comes to on a kernel.
+-- returns, `replied` what a question with a memory returns, `evaluated` what a segment results in on a kernel.
 use Prim.Native.Nat.{ℕ, _<_, _≤_}
 use mathlib.Core.Path.{_≡_}
 use mathlib.Core.Logic.{_⊎_}
@@ -148,7 +148,7 @@ pub record SameDoubles (k k' : List ℕ) (s : Segment) : Type 0 where
 abbrev pub lentReplied : List ℕ → List Segment → ℕ → Memory → Asking → Asked
 lentReplied k segs n m a = replied (limitOf (length segs)) (evaluated Spk k) segs n m a
 
--- What a question of any kind comes to, answered or refused, is the same over every other kernel with the same doubles of the segments that it
+-- What a question of any kind results in, answered or refused, is the same over every other kernel with the same doubles of the segments that it
 -- evaluates, and of no others: no other supplier's numbers flow into it. Nobody else writes the table in between: both questions find it alike.
 abbrev pub LentOwnEvaluated : Type 0
 LentOwnEvaluated =

@@ -98,7 +98,7 @@ IndexedOrientationsFit =
     (k : List ℕ) (before : List Segment) (spare : List ℕ) (segs : List Segment) (ix : List ℕ) (n : ℕ) → IndexedAs Pck k before spare segs ix n
     → (q : pck.Question) → orientedWith (limitOf (length segs)) k segs n ix q .outcome ≡ outcome.Refused TableUnfit → ⊥
 
--- **Own bytes.** What a question of any kind comes to through the index that the opening left, answered or refused, is the same over every other
+-- **Own bytes.** What a question of any kind results in through the index that the opening left, answered or refused, is the same over every other
 -- kernel with the same doubles of the segments that it evaluates, and of no others ..
 abbrev pub IndexedOwnEvaluated : Type 0
 IndexedOwnEvaluated =

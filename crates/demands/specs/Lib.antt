@@ -2,3 +2,4 @@
 pub mod Demands
 pub mod Statements
 pub mod Indexed
+pub mod Outputs

@@ -1,12 +1,13 @@
 -- What is proved of usage statements, as a ledger keeper reads it. The contracts say what the functions return and write: `statementOf` is what
--- `tally::add_up` returns, `statementText` what `account::put_statement` puts into a buffer, `programText` every byte that `statement` prints.
+-- `tally::add_up` returns, `statementText` what `statement_text::put_statement` puts into a buffer, `programText` every byte that `statement` prints.
 use Prim.Native.Nat.{ℕ, _+_, _%_, _≤_, _<_}
 use mathlib.Core.Path.{_≡_}
-use mathlib.Core.List.{List, _++_, map, List·Permᴰ}
+use mathlib.Core.List.{List, [], _∷_, _++_, map, List·Permᴰ}
 use lib.ListN.{length, getD}
 use Rattle.refusal.specs.declared.Refusal.{Refusal}
 use Rattle.refusal.specs.declared.Refusal.the-variants.{InputTooLong, BadRecord, TooManySuppliers}
 use Rattle.lines.specs.Text.{refusalText}
+use Rattle.lines.specs.Lines.{textLines}
 use Rattle.streams.specs.Input.{inputLimit}
 use Rattle.tally.specs.declared.Outcome.the-variants.{Refused}
 use Rattle.tally.specs.Usage.{Line, usageSize, recordsIn, supplierAt, linesOf}
@@ -14,7 +15,7 @@ use Rattle.tally.specs.Faults.{supplierLimit}
 use Rattle.tally.specs.Statement.{stated, refusedStatement, outcomeNumber, statementOf}
 use Rattle.tally.specs.Merging.{sumOf, merged, recordsOf, naming}
 use Rattle.tally.specs.When.{BadAt, CrowdedAt, Faultless}
-use Rattle.account.specs.Text.{statedText, statementText, programText}
+use Rattle.statement_text.specs.Text.{lineText, totalText, statedText, statementText, programText}
 
 -- The number that a file is refused with: 0 where it is not.
 abbrev pub numberFor : List ℕ → ℕ
@@ -69,6 +70,10 @@ NoLine = (file : List ℕ)
     → ((r : Refusal) → statementOf file .outcome ≡ Refused r → statementText file ≡ refusalText r)
     × (inputLimit < length file → programText file ≡ refusalText InputTooLong)
     × (length file ≤ inputLimit → programText file ≡ statementText file)
+
+-- **statement-lines.** Read line by line, an accepted file's text is a line for each supplier, in their order, and last the total.
+abbrev pub StatementLines : Type 0
+StatementLines = (file : List ℕ) → Accepted file → textLines (statementText file) ≡ map lineText (linesIn file) ++ (totalText (recordsIn file) ∷ [])
 
 -- **merge.** The statement of two accepted files put together is their two statements merged, count by count, and its total the sum of theirs, while it
 -- has at most 512 suppliers; else it is 20. So logs can be split over machines, and their statements added up.

@@ -1,8 +1,8 @@
 -- Worked examples that antt computes: each is closed by `refl`, and every definition on the way is named on the `unfolding` line.
 use Prim.Native.Nat.{ℕ, _+_, _*_}
 use mathlib.Core.Path.{_≡_, refl}
-use mathlib.Core.Bool.{Bool, true, false}
-use mathlib.Core.List.{List, [], _∷_, map}
+use mathlib.Core.Bool.{true, false}
+use mathlib.Core.List.{[], _∷_, map}
 use lib.Ieee.{Float, nan, inf, add, sub, mul, neg, ofInt, ofBits, binary64}
 use Rattle.bits.specs.F64.{+0, whole}
 use Rattle.frame.specs.State.{stateOf, zeroState, negatedState, plusState, minusState, finiteState}
@@ -38,12 +38,7 @@ unit = (whole 1 ∷ whole 0 ∷ whole 0 ∷ []) ∷ (whole 0 ∷ whole 1 ∷ who
 abbrev pub nine : Matrix
 nine = matrix 3 (λ i j. whole (3 * i + j + 1))
 
--- Document 01: rows (0, 1, 0), (-1, 0, 0), (0, 0, 1) on (1, 2, 3, 4, 5, 6) give (2, -1, 3, 5, -4, 6).
-pub quarter-turn : turnedState quarter counted ≡ state (whole 2) (minus 1) (whole 3) (whole 5) (minus 4) (whole 6)
-unfolding add mul neg ofInt
-quarter-turn = refl
-
--- The same from J2000 to ECLIPJ2000.
+-- The quarter turn of (1, 2, 3, 4, 5, 6) from J2000 to ECLIPJ2000.
 pub to-ecliptic : turnedBetween J2000 EclipJ2000 quarter counted ≡ state (whole 2) (minus 1) (whole 3) (whole 5) (minus 4) (whole 6)
 unfolding turnedBetween add mul neg ofInt
 to-ecliptic = refl

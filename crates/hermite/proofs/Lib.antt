@@ -2,5 +2,4 @@
 pub mod Table
 pub mod Same
 pub mod Own
-pub mod Cases
 pub mod TwoAnswers

@@ -10,7 +10,8 @@ use Rattle.bits.specs.Bytes.{every}
 use Rattle.bits.proofs.Agree.{Agree}
 use Rattle.hermite.specs.declared.Point.{Point}
 use Rattle.hermite.specs.Hermite.{doubled, difference, product, product′, valueTo, slopeTo, tableOf, hermiteOf}
-use Rattle.hermite.specs.Axes.{axisAt, axisTable}
+use Rattle.hermite.specs.Axes.{axisAt}
+use Rattle.hermite.specs.Steps.{axisTable}
 
 module _ (z z′ g g′ h h′ : ℕ → Float) (n : ℕ) (ez : Agree z z′ (n + n)) (eg : Agree g g′ n) (eh : Agree h h′ n) where
   difference-same : (k i : ℕ) → i + k < n + n → difference z g h k i ≡ difference z′ g′ h′ k i

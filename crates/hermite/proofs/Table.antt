@@ -11,7 +11,8 @@ use borrow.Author.Tests.{eq-eqb, ne-eqb}
 use Rattle.bits.specs.F64.{_⊖_, at, +0, one}
 use Rattle.bits.proofs.Fill.{Filled, fill-more}
 use Rattle.hermite.specs.declared.Newton.{Newton}
-use Rattle.hermite.specs.Hermite.{doubled, quotient, difference, product, product′, valueTo, slopeTo, newtonAt, advanced, tableOf}
+use Rattle.hermite.specs.Hermite.{doubled, quotient, difference, product, product′, valueTo, slopeTo, tableOf}
+use Rattle.hermite.specs.Steps.{newtonAt, advanced}
 
 module _ (z g h : ℕ → Float) where
   -- the first column, by the parity of the place

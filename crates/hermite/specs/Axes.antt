@@ -2,13 +2,12 @@
 use Prim.Native.Nat.{ℕ, _+_}
 use mathlib.Core.List.{List}
 use lib.Ieee.{Float}
-use Rattle.bits.specs.F64.{at}
 use Rattle.bits.specs.Bytes.{every}
 use Rattle.frame.specs.declared.State.{State}
 use Rattle.hermite.specs.declared.Point.{Point}
-use Rattle.hermite.specs.Hermite.{difference, tableOf, hermiteOf}
+use Rattle.hermite.specs.Hermite.{hermiteOf}
 
--- One axis: its positions stand at byte b and every 48 bytes after, its velocities 24 bytes behind them, and the c epochs from byte e on.
+-- One axis: its positions stand at byte b and every 48 bytes after, its velocities 24 bytes after them, and the c epochs from byte e on.
 abbrev pub axisAt : List ℕ → ℕ → ℕ → ℕ → Float → Point
 axisAt s b e c x = hermiteOf (every 8 s e) (every 48 s b) (every 48 s (b + 24)) c x
 
@@ -19,13 +18,3 @@ hermiteAt s q e c x =
     let b = axisAt s (q + 8) e c x in
     let d = axisAt s (q + 16) e c x in
     record { x = a .value; y = b .value; z = d .value; vx = a .slope; vy = b .slope; vz = d .slope }
-
--- ---- what the small functions of the code do
-
--- Number i of the column of order k for the axis at byte b, over the doubled nodes in z.
-abbrev pub axisColumn : List ℕ → ℕ → List Float → ℕ → ℕ → Float
-axisColumn s b z k i = difference (at z) (every 48 s b) (every 48 s (b + 24)) k i
-
--- The axis at byte b over the c doubled nodes in z.
-abbrev pub axisTable : List ℕ → ℕ → List Float → ℕ → Float → Point
-axisTable s b z c x = tableOf (at z) (every 48 s b) (every 48 s (b + 24)) c x

@@ -4,7 +4,6 @@ use mathlib.Core.Bool.{cond}
 use lib.Dec.{eqb}
 use lib.Ieee.{Float}
 use Rattle.bits.specs.F64.{_⊕_, _⊖_, _⊗_, _⊘_, +0, one}
-use Rattle.hermite.specs.declared.Newton.{Newton}
 use Rattle.hermite.specs.declared.Point.{Point}
 
 -- Each number twice in a row.
@@ -54,19 +53,3 @@ tableOf z g h n x =
 unfoldable pub hermiteOf : (ℕ → Float) → (ℕ → Float) → (ℕ → Float) → ℕ → Float → Point
 unfolding tableOf
 hermiteOf f g h n x = tableOf (doubled f) g h n x
-
--- ---- what the small functions of the code do
-
--- All four numbers of the Newton form up to order k.
-abbrev pub newtonAt : (ℕ → Float) → (ℕ → Float) → Float → ℕ → Newton
-newtonAt c z x k = record { val = valueTo c z x k; der = slopeTo c z x k; prod = product z x k; dprod = product′ z x k }
-
--- One term more, with the coefficient c and the new factor u.
-abbrev pub advanced : Newton → Float → Float → Newton
-advanced s c u =
-    record {
-      val = s .val ⊕ c ⊗ (u ⊗ s .prod);
-      der = s .der ⊕ c ⊗ (s .prod ⊕ u ⊗ s .dprod);
-      prod = u ⊗ s .prod;
-      dprod = s .prod ⊕ u ⊗ s .dprod;
-    }

@@ -7,8 +7,10 @@ ghost use Prim.Native.Nat.{ℕ, _+_, _*_, _/_, _≤_, _<_};
 ghost use lib.ListN.{length};
 ghost use Rattle.bits.specs.F64.{at};
 ghost use Rattle.bits.specs.Bytes.{every};
-ghost use Rattle.hermite.specs.Hermite.{doubled, quotient, advanced};
-ghost use Rattle.hermite.specs.Axes.{hermiteAt, axisColumn, axisTable};
+ghost use Rattle.hermite.specs.Hermite.{doubled, quotient};
+ghost use Rattle.hermite.specs.Steps.{advanced};
+ghost use Rattle.hermite.specs.Axes.{hermiteAt};
+ghost use Rattle.hermite.specs.Steps.{axisColumn, axisTable};
 
 // A value and a derivative.
 pub struct Point {
@@ -54,7 +56,7 @@ fn nodes_at(kernel: &[u8], e: usize, c: usize) -> [f64; 64]
     z
 }
 
-// The first difference at place i, of the values at byte q of each state and the slopes 24 bytes behind:
+// The first difference at place i, of the values at byte q of each state and the slopes 24 bytes after:
 // within a doubled node it is the slope.
 fn first_at(kernel: &[u8], q: usize, z: &[f64; 64], i: usize) -> f64
     requires { ⌜ (i < 63) × (q + 48 * ((i + 1) / 2) + 32 ≤ length (now kernel)) ⌝ }
@@ -94,7 +96,7 @@ fn next_column(cur: &[f64; 64], next: &mut [f64; 64], z: &[f64; 64], m: usize, k
     }
 }
 
-// One axis over c doubled nodes z: values at byte q of each state, slopes 24 bytes behind.
+// One axis over c doubled nodes z: values at byte q of each state, slopes 24 bytes after.
 fn axis_at(kernel: &[u8], q: usize, z: &[f64; 64], c: usize, x: f64) -> Point
     requires { ⌜ (1 ≤ c) × (c ≤ 32) × (q + 48 * c ≤ length (now kernel) + 16) ⌝ }
     ensures { λ r. ⌜ r ≡ axisTable (now (kernel .entry)) q (now (z .entry)) c x ⌝ }

@@ -89,7 +89,7 @@ module _ (a b m : ℕ) (apart : a + m ≤ b) (xs : List ℕ) (h i : ℕ) (hm : h
       ∙ part-in b m xs w i im
       ∙ ap (set (take m (drop b xs)) i) (sym (part-at a m xs w h hm))
 
-  -- a part before both, or behind both
+  -- a part before both, or after both
   join-before : (d : ℕ) → d + m ≤ a → take m (drop d zs) ≡ take m (drop d xs)
   join-before d l = part-behind d m ys (i + 1) (a + h) (omega arith) ∙ part-behind d m xs w (b + i) (omega arith)
 

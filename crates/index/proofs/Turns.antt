@@ -176,7 +176,7 @@ module _ (test : Segment → Bool) (segs : List Segment) (n : ℕ) (last below :
       go true = refl
       go false = refl
 
-  -- the walk comes to its end
+  -- the walk reaches its end
   pub find-end : (c : Choice) (i : ℕ) → n ≤ i → Left c i ≡ c
   find-end c i l =
       ap (λ (r : List ℕ). orElse c (chosenOf test segs r)) (rest-down-end below n i l)

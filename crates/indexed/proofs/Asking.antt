@@ -31,7 +31,7 @@ use Rattle.spk.specs.Questions.{hits, swapped}
 use Rattle.spk.specs.Choosing.{recall, lastForward, lastReversed, forwardIn, remembered, rememberedAt}
 use Rattle.spk.specs.Answers.{settled, negatedOf, differenceOf}
 use Rattle.spk.specs.Asking.{Found, legFrom, chained, backward, foundBy, answerTo, asked}
-use Rattle.spk.specs.Finding.{isFailed, isEarly, earlyAnswer}
+use Rattle.spk.specs.Steps.{isFailed, isEarly, earlyAnswer}
 use Rattle.spk.specs.Turning.{turnedAsked}
 use Rattle.spk.specs.Runs.{Asking, Plain, InFrame, Single, fresh, replied, run}
 use Rattle.spk.proofs.Finding.{at-place, no-place, recall-within, failed-first, asked-early, late}

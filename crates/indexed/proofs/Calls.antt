@@ -49,8 +49,8 @@ use Rattle.table.specs.Places.{limitOf}
 use Rattle.pck.specs.declared.Question.{Question as BodyQuestion}
 use Rattle.pck.specs.declared.Oriented.{Oriented}
 use Rattle.opening.specs.declared.Plan.{Plan}
-use Rattle.spk.specs.Paper.{askedTold}
-use Rattle.pck.specs.Paper.{orientedTold}
+use Rattle.spk.specs.Told.{askedTold}
+use Rattle.pck.specs.Told.{orientedTold}
 use Rattle.lent.proofs.Telling.{first-said}
 use Rattle.lent.proofs.Seg.{Seg, val, makes}
 use Rattle.lent.proofs.Matrices.{Mat, mat, mat-makes}

@@ -32,7 +32,7 @@ use denote.Triple.Clauses.{ensured, lasts}
 use denote.Triple.Walked.{says}
 use Rattle.segment.specs.declared.Segment.{Segment}
 use Rattle.opening.specs.declared.Plan.{Plan}
-use Rattle.opening.specs.Planning.{countIn}
+use Rattle.opening.specs.Steps.{countIn}
 use Rattle.table.specs.Places.{lentLimit}
 use Rattle.table.specs.Marks.{markedTo}
 use Rattle.index.specs.Parts.{quarter, Roomy, hasRoom, joinedDown, joinedUp, emptied, filledIndex, RightIndex}

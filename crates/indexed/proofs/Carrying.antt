@@ -40,7 +40,7 @@ use denote.Triple.Walked.{says}
 use Rattle.daf.specs.declared.Family.{Family}
 use Rattle.segment.specs.declared.Segment.{Segment}
 use Rattle.opening.specs.declared.Plan.{Plan}
-use Rattle.opening.specs.Planning.{countIn, Fits, carriedOut}
+use Rattle.opening.specs.Steps.{countIn, Fits, carriedOut}
 use Rattle.table.specs.Places.{lentLimit}
 use Rattle.indexed.specs.Opening.{indexedBy}
 use Rattle.lent.proofs.Seg.{Seg}

@@ -10,6 +10,7 @@ use borrow.Author.Tests.{ltb-true, ltb-false}
 use Rattle.bits.proofs.Tests.{by-test}
 use Rattle.daf.specs.declared.Family.{Family}
 use Rattle.daf.specs.declared.Family.the-variants.{Spk, Pck}
+use Rattle.daf.specs.declared.Cursor.{Cursor}
 use Rattle.segment.specs.declared.Segment.{Segment}
 use Rattle.table.specs.Places.{lentLimit, limitOf}
 use Rattle.table.specs.Segments.{seg}
@@ -20,7 +21,7 @@ use Rattle.opening.specs.declared.Plan.{Plan}
 use Rattle.opening.specs.declared.Plan.the-variants.{Fill, Refuse}
 use Rattle.opening.specs.declared.Found.{Found}
 use Rattle.opening.specs.declared.Found.the-variants.{Accepted}
-use Rattle.opening.specs.Planning.{countIn, foundIn, marksFor, planOf, carriedOut}
+use Rattle.opening.specs.Steps.{countIn, foundIn, marksFor, planOf, carriedOut}
 use Rattle.opening.specs.Opening.{openCases}
 use Rattle.opening.specs.Lent.{found, tableAfter}
 use Rattle.opening.proofs.Planned.{plan-fits, found-told, table-told}
@@ -133,6 +134,14 @@ index-told f k segs ix =
     let p = planOf f limit k in
     index-by p (carriedOut f k p segs) ix ∙ ap₂ (λ (r : Found) (l : List Segment). indexWith r l ix) (found-told f limit k) (table-told f k segs)
 
+-- an index that is filled where it has room is right where it has room
+right-with : (n : ℕ) (segs : List Segment) (ix : List ℕ) → let after = cond (hasRoom n ix) (filledIndex segs n ix) ix in hasRoom n after ≡ true → RightIndex segs n after
+right-with n segs ix r =
+    let by : Bool → List ℕ = λ b. cond b (filledIndex segs n ix) ix in
+    by-test (hasRoom n ix)
+    (λ y. subst (RightIndex segs n) (sym (ap by y)) (filled-right segs n ix (room-yes n ix y)))
+    (λ y. absurd (true≢false (sym r ∙ ap (hasRoom n) (ap by y) ∙ y)))
+
 -- THEOREM: the index that an accepted opening left is right for the table that it left, where it has room for the segments
 pub opened-right : (f : Family) (limit : ℕ) (k : List ℕ) (segs : List Segment) (ix : List ℕ) (n : ℕ) → found f limit k ≡ Accepted n
     → hasRoom n (indexAfter f limit k segs ix) ≡ true → RightIndex (tableAfter f limit k segs) n (indexAfter f limit k segs ix)
@@ -140,6 +149,9 @@ unfolding indexAfter
 opened-right f limit k segs ix n e r =
     let after = tableAfter f limit k segs in
     let is = ap (λ (x : Found). indexWith x after ix) e in
-    by-test (hasRoom n ix)
-    (λ y. subst (RightIndex after n) (sym (is ∙ ap (λ (b : Bool). cond b (filledIndex after n ix) ix) y)) (filled-right after n ix (room-yes n ix y)))
-    (λ y. absurd (true≢false (sym r ∙ ap (hasRoom n) (is ∙ ap (λ (b : Bool). cond b (filledIndex after n ix) ix) y) ∙ y)))
+    subst (RightIndex after n) (sym is) (right-with n after ix (sym (ap (hasRoom n) is) ∙ r))
+
+-- .. and so is the one that a plan which fills left
+pub planned-right : (n : ℕ) (c : Cursor) (segs : List Segment) (ix : List ℕ) → hasRoom n (indexedBy (Fill n c) segs ix) ≡ true → RightIndex segs n (indexedBy (Fill n c) segs ix)
+unfolding indexedBy
+planned-right n c segs ix r = right-with n segs ix r

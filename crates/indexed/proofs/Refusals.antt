@@ -25,10 +25,10 @@ use Rattle.table.specs.Segments.{seg}
 use Rattle.index.specs.Parts.{firstOf, aboveOf, hasRoom}
 use Rattle.chain.specs.declared.Leg.{Leg}
 use Rattle.chain.specs.declared.Step.{Step}
-use Rattle.chain.specs.declared.Step.the-variants.{Blocked, Kept, Home, Refused}
+use Rattle.chain.specs.declared.Step.the-variants.{Blocked, Kept, Zero, Refused}
 use Rattle.chain.specs.declared.Next.the-variants.{Ended, Onward}
-use Rattle.chain.specs.Step.{Evaluation, leaves, goesHome, keptOr, met, seen, look, isEnd}
-use Rattle.chain.specs.Walk.{chainLimit, noCoverage, onward, returns, advance, follow, isHome}
+use Rattle.chain.specs.Step.{Evaluation, leaves, reachesZero, keptOr, met, seen, look, isEnd}
+use Rattle.chain.specs.Walk.{chainLimit, noCoverage, onward, returns, advance, follow, isZero}
 use Rattle.chain.specs.When.{OwnOnly}
 use Rattle.chain.proofs.Ends.{clash}
 use Rattle.spk.specs.declared.Question.{Question}
@@ -41,7 +41,7 @@ use Rattle.spk.proofs.Single.{turned-by}
 use Rattle.spk.specs.Questions.{isSame, swapped}
 use Rattle.spk.specs.Answers.{refusedAnswer, sameAnswer, differenceOf}
 use Rattle.spk.specs.Asking.{Found, legFrom, answerTo}
-use Rattle.spk.specs.Finding.{isEarly, earlyAnswer}
+use Rattle.spk.specs.Steps.{isEarly, earlyAnswer}
 use Rattle.spk.specs.Turning.{isRefused, turnedAnswer}
 use Rattle.spk.proofs.Settling.{settled-refused, settled-state}
 use Rattle.spk.proofs.Exactly.{answer-refused, settled-why, state-open, negated-why, own-within, no-other, refused-zeros}
@@ -59,13 +59,13 @@ module _ (ev : Evaluation) (segs : List Segment) (leg : Leg) (r : Refusal) where
   -- a segment that gives a state refuses nothing
   met-open : (kept : Step) (s : Segment) (x : State) → isEnd kept ≡ false → met kept s x ≡ Refused r → ⊥
   unfolding met
-  met-open kept s x = go (goesHome s) kept
+  met-open kept s x = go (reachesZero s) kept
     where
-      go : (b : Bool) (k : Step) → isEnd k ≡ false → cond b (Home x) (keptOr k (Kept (record { center = s .center; state = x }))) ≡ Refused r → ⊥
+      go : (b : Bool) (k : Step) → isEnd k ≡ false → cond b (Zero x) (keptOr k (Kept (record { center = s .center; state = x }))) ≡ Refused r → ⊥
       go true k e h = clash (cc)
       go false Blocked e h = clash (cc)
       go false (Kept hop) e h = clash (cc)
-      go false (Home y) e h = true≢false e
+      go false (Zero y) e h = true≢false e
       go false (Refused y) e h = true≢false e
 
   look-own : (kept : Step) (i : ℕ) → isEnd kept ≡ false → look ev leg kept (seg segs i) i ≡ Refused r → ev (seg segs i) i (leg .et) ≡ evaluation.Refused r
@@ -108,12 +108,12 @@ module _ (step : Leg → Step) (G : Refusal → Type 0) (own : (leg : Leg) (r : 
           back : (t : Bool) → follow (λ on. walkBy step on left) (cond t (Ended (noCoverage (leg .start))) (Onward (onward leg hop))) ≡ evaluation.Refused r → G r
           back true h = at-11 (leg .start) r h
           back false h = ih (onward leg hop) h
-      go (Home x) e ih h = state-open _ r h
+      go (Zero x) e ih h = state-open _ r h
       go (Refused y) e ih h = own leg r (e ∙ ap Refused (refusal-eq y r h))
 
   zero-own : (leg : Leg) (r : Refusal) → toZeroBy step leg ≡ evaluation.Refused r → G r
   unfolding toZeroBy
-  zero-own leg r = go (isHome leg)
+  zero-own leg r = go (isZero leg)
     where
       go : (b : Bool) → cond b (evaluation.State (leg .total)) (walkBy step leg chainLimit) ≡ evaluation.Refused r → G r
       go true h = state-open _ r h
@@ -145,7 +145,7 @@ module _ (limit : ℕ) (ev : Evaluation) (owns : OwnOnly ev) (segs : List Segmen
           zero-own step Asked-number step-number (λ b. (omega arith, omega arith)) (legFrom (swapped q)) r (v ∙ e)
       go (evaluation.Refused x) b u v e = zero-own step Asked-number step-number (λ b. (omega arith, omega arith)) (legFrom q) r (u ∙ e)
 
-  -- what the choices come to is refused so, and its way is no refusal
+  -- what the choices result in is refused so, and its way is no refusal
   record Comes (f : Found) : Type 0 where
     open-way : isRefused (f .way) ≡ false
     numbers : (r : Refusal) → f .result ≡ evaluation.Refused r → Asked-number r

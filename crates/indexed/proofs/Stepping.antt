@@ -23,7 +23,7 @@ use Rattle.chain.specs.declared.Step.the-variants.{Blocked}
 use Rattle.chain.specs.declared.Next.{Next}
 use Rattle.chain.specs.declared.Next.the-variants.{Ended, Onward}
 use Rattle.chain.specs.Step.{Evaluation, leaves, look, isEnd, stepIn, stepFrom}
-use Rattle.chain.specs.Walk.{chainLimit, noCoverage, advance, follow, walkFrom, isHome, toZero}
+use Rattle.chain.specs.Walk.{chainLimit, noCoverage, advance, follow, walkFrom, isZero, toZero}
 use Rattle.chain.specs.Steps.{begin}
 use Rattle.indexed.specs.Stepping.{stepOver, stepBy, placeBy, walkBy, toZeroBy}
 use Rattle.chain.proofs.Steps.{look-past, step-from}
@@ -122,7 +122,7 @@ module _ (ev : Evaluation) (segs : List Segment) (leg : Leg) where
 
 -- ---- the walk, by what a step gives
 module _ (step : Leg → Step) where
-  -- what a walk of at most so many steps comes to, from where it stands
+  -- what a walk of at most so many steps results in, from where it stands
   abbrev pub onBy : ℕ → Next → Evaluated
   onBy w a = follow (λ (on : Leg). walkBy step on w) a
 
@@ -136,7 +136,7 @@ module _ (step : Leg → Step) where
 
   pub begin-by : (g : Leg) → onBy chainLimit (begin g) ≡ toZeroBy step g
   unfolding toZeroBy begin
-  begin-by g = go (isHome g)
+  begin-by g = go (isZero g)
     where
       go : (b : Bool) → onBy chainLimit (cond b (Ended (evaluation.State (g .total))) (Onward g)) ≡ cond b (evaluation.State (g .total)) (walkBy step g chainLimit)
       go true = refl
@@ -157,5 +157,5 @@ module _ (ev : Evaluation) (segs : List Segment) (n : ℕ) where
       → (leg : Leg) → toZeroBy (stepBy ev segs n first above) leg ≡ toZero ev segs n leg
   unfolding toZeroBy toZero
   to-zero-by-index first above right pos leg =
-      ap (cond (isHome leg) (evaluation.State (leg .total)))
+      ap (cond (isZero leg) (evaluation.State (leg .total)))
       (walk-same (stepBy ev segs n first above) (λ l. step-by-index ev segs l n first above right pos) chainLimit leg)

@@ -21,7 +21,7 @@ use Rattle.spk.specs.Questions.{hits, swapped}
 use Rattle.spk.specs.Choosing.{recall, remembered}
 use Rattle.spk.specs.Answers.{negatedOf, differenceOf}
 use Rattle.spk.specs.Asking.{Found, legFrom, evaluatedAt, answerTo, asked}
-use Rattle.spk.specs.Finding.{isEarly, earlyAnswer}
+use Rattle.spk.specs.Steps.{isEarly, earlyAnswer}
 use Rattle.spk.specs.Turning.{turnedAsked}
 use Rattle.spk.specs.Alone.{aloneAnswer}
 use Rattle.spk.specs.Runs.{Asking, Plain, InFrame, Single}
@@ -41,7 +41,7 @@ chainedBy ev segs n ix q =
     let step = stepBy ev segs n (firstOf ix) (aboveOf ix) in
     differenceOf (toZeroBy step (legFrom q)) (toZeroBy step (legFrom (swapped q)))
 
--- Reversed, all six negated; else what the chain came to.
+-- Reversed, all six negated; else what the chain resulted in.
 abbrev pub backOr : Evaluation → List Segment → Question → Evaluated → Choice → Found
 backOr ev segs q chain (At i) = record { way = Reversed i; result = negatedOf (evaluatedAt ev segs q i) }
 backOr ev segs q chain Nothing = record { way = Chained; result = chain }
@@ -55,7 +55,7 @@ abbrev pub aheadOr : Evaluation → List Segment → Question → Found → Choi
 aheadOr ev segs q back (At i) = record { way = Forward i; result = evaluatedAt ev segs q i }
 aheadOr ev segs q back Nothing = back
 
--- What a forward choice comes to, and what is remembered after it.
+-- What a forward choice results in, and what is remembered after it.
 abbrev pub chosenAsked : Evaluation → List Segment → ℕ → List ℕ → Memory → Question → Choice → Asked
 chosenAsked ev segs n ix m q c = record { answer = answerTo (aheadOr ev segs q (backwardBy ev segs n ix q) c); memory = remembered segs m c }
 

@@ -9,7 +9,7 @@ use Rattle.opening.specs.declared.Plan.{Plan}
 use Rattle.opening.specs.declared.Plan.the-variants.{Fill, Refuse}
 use Rattle.opening.specs.declared.Found.{Found}
 use Rattle.opening.specs.declared.Found.the-variants.{Accepted, Refused}
-use Rattle.opening.specs.Planning.{countIn}
+use Rattle.opening.specs.Steps.{countIn}
 use Rattle.opening.specs.Lent.{found, tableAfter}
 use Rattle.index.specs.Visiting.{headOf, down}
 use Rattle.index.specs.Parts.{lastOf, belowOf, roomIn, hasRoom, filledIndex}

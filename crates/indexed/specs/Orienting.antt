@@ -10,7 +10,7 @@ use Rattle.index.specs.Parts.{lastOf, belowOf, hasRoom}
 use Rattle.pck.specs.declared.Question.{Question}
 use Rattle.pck.specs.declared.Oriented.{Oriented}
 use Rattle.pck.specs.Orienting.{hits, oriented}
-use Rattle.pck.specs.Finding as finding
+use Rattle.pck.specs.Steps as finding
 
 -- The last covering segment of the body frame that the walk down the index finds.
 abbrev pub bodyFound : List Segment → ℕ → List ℕ → Question → Choice

@@ -11,7 +11,7 @@ use Rattle.chain.specs.declared.Leg.{Leg}
 use Rattle.chain.specs.declared.Step.{Step}
 use Rattle.chain.specs.declared.Step.the-variants.{Blocked}
 use Rattle.chain.specs.Step.{Evaluation, look, isEnd}
-use Rattle.chain.specs.Walk.{chainLimit, noCoverage, advance, follow, isHome}
+use Rattle.chain.specs.Walk.{chainLimit, noCoverage, advance, follow, isZero}
 
 -- The scan over segments by their numbers, in the list's order.
 unfoldable pub stepOver : Evaluation → List Segment → Leg → Step → List ℕ → Step
@@ -36,4 +36,4 @@ walkBy step leg (suc left) = follow (λ on. walkBy step on left) (advance leg (s
 
 -- The state of a leg's body about body 0, by what a step gives.
 unfoldable pub toZeroBy : (Leg → Step) → Leg → Evaluated
-toZeroBy step leg = cond (isHome leg) (evaluation.State (leg .total)) (walkBy step leg chainLimit)
+toZeroBy step leg = cond (isZero leg) (evaluation.State (leg .total)) (walkBy step leg chainLimit)

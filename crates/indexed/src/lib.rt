@@ -8,18 +8,19 @@ ghost use Rattle.segment.specs.Evaluating.{evaluated};
 ghost use mathlib.Core.Bool.{true, not};
 ghost use Rattle.table.specs.Places.{lentLimit, limitOf};
 ghost use Rattle.table.specs.Marks.{markedTo};
-ghost use Rattle.opening.specs.Planning.{countIn, Fits, carriedOut};
+ghost use Rattle.opening.specs.Steps.{countIn, Fits, carriedOut};
 ghost use Rattle.opening.specs.Lent.{found, tableAfter};
-ghost use Rattle.opening.specs.Paper.{foundTold};
+ghost use Rattle.opening.specs.Told.{foundTold};
 ghost use Rattle.index.specs.Visiting.{startOf};
 ghost use Rattle.index.specs.Parts.{Roomy, lastOf, firstOf, aboveOf, hasRoom, filledIndex, RightIndex};
 ghost use Rattle.chain.specs.Walk.{follow};
 ghost use Rattle.spk.specs.Asking.{answerTo};
-ghost use Rattle.spk.specs.Paper.{askedTold};
-ghost use Rattle.pck.specs.Paper.{orientedTold};
+ghost use Rattle.spk.specs.Told.{askedTold};
+ghost use Rattle.pck.specs.Told.{orientedTold};
 ghost use Rattle.indexed.specs.Stepping.{placeBy, stepBy, walkBy};
-ghost use Rattle.indexed.specs.Asking.{lastFound, forwardFound, chainedBy, backwardBy, askedThrough, askedWith, askedInWith};
-ghost use Rattle.indexed.specs.Orienting.{bodyFound, orientedThrough, orientedWith};
+ghost use Rattle.indexed.specs.Answering.{indexedAsked, indexedAskedIn, indexedOriented};
+ghost use Rattle.indexed.specs.Asking.{lastFound, forwardFound, chainedBy, backwardBy, askedThrough};
+ghost use Rattle.indexed.specs.Orienting.{bodyFound, orientedThrough};
 ghost use Rattle.indexed.specs.Opening.{takes, indexedBy, othersBy, indexAfter};
 use chain::Leg;
 use chain::Next;
@@ -70,7 +71,7 @@ fn place_by(ix: &[u16], kept: Step, i: usize, n: usize) -> usize
     match kept {
         Step::Blocked => index::after_up(ix, i, n),
         Step::Kept(_) => index::after_up(ix, i, n),
-        Step::Home(_) => n,
+        Step::Zero(_) => n,
         Step::Refused(_) => n,
     }
 }
@@ -202,7 +203,7 @@ fn through(
         return spk::forward(kernel, kept, i, s, q);
     }
     let a = backward(kernel, table, ix, n, q);
-    spk::unchanged(a, memory)
+    spk::with_memory(a, memory)
 }
 
 // A question with a memory and an index, over the first n of the lent segments. An index without room for them is not used.
@@ -214,8 +215,8 @@ pub fn state(
     memory: Memory,
     q: Question,
 ) -> Asked
-    ensures { λ r. ⌜ r ≡ askedWith (limitOf (length (now (table .entry)))) (evaluated Spk (now (kernel .entry))) (now (table .entry)) n (now (ix .entry)) memory q ⌝ }
-    ensures told { λ r. ⌜ askedTold r ≡ askedTold (askedWith (limitOf (length (now (table .entry)))) (evaluated Spk (now (kernel .entry))) (now (table .entry)) n (now (ix .entry)) memory q) ⌝ }
+    ensures { λ r. ⌜ r ≡ indexedAsked (now (kernel .entry)) (now (table .entry)) n (now (ix .entry)) memory q ⌝ }
+    ensures told { λ r. ⌜ askedTold r ≡ askedTold (indexedAsked (now (kernel .entry)) (now (table .entry)) n (now (ix .entry)) memory q) ⌝ }
 {
     if index::has_room(ix, n) {
         return through(kernel, table, ix, n, memory, q);
@@ -234,8 +235,8 @@ pub fn state_in(
     wanted: Wanted,
     rot: [[f64; 3]; 3],
 ) -> Asked
-    ensures { λ r. ⌜ r ≡ askedInWith (limitOf (length (now (table .entry)))) (evaluated Spk (now (kernel .entry))) (now (table .entry)) n (now (ix .entry)) memory q wanted rot ⌝ }
-    ensures told { λ r. ⌜ askedTold r ≡ askedTold (askedInWith (limitOf (length (now (table .entry)))) (evaluated Spk (now (kernel .entry))) (now (table .entry)) n (now (ix .entry)) memory q wanted rot) ⌝ }
+    ensures { λ r. ⌜ r ≡ indexedAskedIn (now (kernel .entry)) (now (table .entry)) n (now (ix .entry)) memory q wanted rot ⌝ }
+    ensures told { λ r. ⌜ askedTold r ≡ askedTold (indexedAskedIn (now (kernel .entry)) (now (table .entry)) n (now (ix .entry)) memory q wanted rot) ⌝ }
 {
     let a = state(kernel, table, ix, n, memory, q);
     spk::turned(a, wanted, rot)
@@ -285,8 +286,8 @@ pub fn orient(
     n: usize,
     q: pck::Question,
 ) -> pck::Oriented
-    ensures { λ r. ⌜ r ≡ orientedWith (limitOf (length (now (table .entry)))) (now (kernel .entry)) (now (table .entry)) n (now (ix .entry)) q ⌝ }
-    ensures told { λ r. ⌜ orientedTold r ≡ orientedTold (orientedWith (limitOf (length (now (table .entry)))) (now (kernel .entry)) (now (table .entry)) n (now (ix .entry)) q) ⌝ }
+    ensures { λ r. ⌜ r ≡ indexedOriented (now (kernel .entry)) (now (table .entry)) n (now (ix .entry)) q ⌝ }
+    ensures told { λ r. ⌜ orientedTold r ≡ orientedTold (indexedOriented (now (kernel .entry)) (now (table .entry)) n (now (ix .entry)) q) ⌝ }
 {
     if index::has_room(ix, n) {
         return turn(kernel, table, ix, n, q);

@@ -9,11 +9,12 @@ use lib.Ieee.{Float, eq}
 use borrow.Author.Tests.{eq-eqb, ne-eqb, lt-ltb, le-ltb}
 use Rattle.bits.specs.F64.{_⊕_, _⊖_, _⊗_, _⊘_, sumFrom0}
 use Rattle.interp.specs.Lagrange.{nodeFrom, nodeOf, factors, weightOf, shareOf, blendOf, lagrangeOf}
-use Rattle.interp.specs.Discrete.{six, withShare}
+use Rattle.interp.specs.Discrete.{six}
+use Rattle.interp.specs.Steps.{withShare}
 use Rattle.frame.specs.declared.State.{State}
 
 module _ (f : ℕ → Float) (x : Float) (n r : ℕ) where
-  -- r is what the search for a node comes to from i
+  -- r is what the search for a node finds from i
   abbrev pub Finds : ℕ → Type 0
   Finds i = (d : ℕ) × (i + d ≡ n) × (nodeFrom f x d i ≡ r)
 

@@ -1,22 +1,12 @@
--- The numbers of document 01 to hold against, for windows and Lagrange: antt computes each.
+-- Worked cases of search, windows and Lagrange, which antt computes. Those of RULES, "Worked numbers", stand in `worked`.
 -- Assumes nothing.
 use mathlib.Core.Path.{_≡_, refl}
 use mathlib.Core.List.{List, [], _∷_, map}
 use Prim.Native.Nat.{ℕ}
 use lib.Ieee.{Float, add, sub, mul, div, eq, le, ofBits, ofInt}
 use Rattle.bits.specs.F64.{at, whole}
-use Rattle.interp.specs.Window.{leftOf, windowSize, windowStart}
+use Rattle.interp.specs.Window.{leftOf, windowSize}
 use Rattle.interp.specs.Lagrange.{lagrangeOf}
-
--- Where the window around l starts, of N 10 and degree d.
-unfoldable pub startOf : ℕ → ℕ → ℕ
-unfolding windowSize windowStart
-startOf d l = windowStart l (windowSize d 10) 10
-
--- Degree 3: l 5 starts at 4, l 0 at 0, l 9 at 6. Degree 4: l 5 starts at 3.
-pub case-window : (map (startOf 3) (5 ∷ 0 ∷ 9 ∷ []) ≡ 4 ∷ 0 ∷ 6 ∷ []) × (startOf 4 5 ≡ 3)
-unfolding startOf
-case-window = (refl, refl)
 
 -- The largest degree of 64 bits doesn't wrap: of 3 records the window has 3.
 pub case-degree : windowSize 0xffff_ffff_ffff_ffff 3 ≡ 3
@@ -37,7 +27,7 @@ case-search = refl
 abbrev pub epochs : ℕ → Float
 epochs = at (whole 0 ∷ whole 2 ∷ [])
 
--- Values 10 and 20 at 1: 15. At the epoch 2 itself its value, 20.
-pub case-lagrange : map (lagrangeOf epochs (at (whole 10 ∷ whole 20 ∷ [])) 2) (whole 1 ∷ whole 2 ∷ []) ≡ whole 15 ∷ whole 20 ∷ []
+-- Values 10 and 20: at the epoch 2 itself its value, 20.
+pub case-lagrange : lagrangeOf epochs (at (whole 10 ∷ whole 20 ∷ [])) 2 (whole 2) ≡ whole 20
 unfolding lagrangeOf add sub mul div eq ofBits ofInt
 case-lagrange = refl

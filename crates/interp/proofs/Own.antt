@@ -22,7 +22,7 @@ lagrange-own s s′ q e c x epochs states =
     six-same (λ b. lagrangeOf (every 8 s e) (every 48 s b) c x) (λ b. lagrangeOf (every 8 s′ e) (every 48 s′ b) c x) q
     (λ k b l t. lagrange-same (every 8 s e) (every 8 s′ e) (every 48 s b) (every 48 s′ b) c x epochs (column-same s s′ q c states k b l t))
 
--- ---- a segment of n states from byte p on and their epochs behind them
+-- ---- a segment of n states from byte p on and their epochs after them
 
 -- Two kernels agree on a segment as far as a question at et reads it: on its epochs, and on the states of the window.
 pub record Alike (s s′ : List ℕ) (p n d : ℕ) (et : Float) : Type 0 where

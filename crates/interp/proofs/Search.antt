@@ -21,7 +21,7 @@ module _ (p : ℕ → Bool) where
   unfolding bisect
   bisect-down d lo hi h e = rw (lt-ltb lo hi h, e, bisect)
 
-  -- r is what the search comes to from lo and hi, with turns enough left
+  -- r is what the search finds from lo and hi, with turns enough left
   abbrev pub Comes : ℕ → ℕ → ℕ → Type 0
   Comes r lo hi = (d : ℕ) × (hi ≤ lo + d) × (bisect p d lo hi ≡ r)
 

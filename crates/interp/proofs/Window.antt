@@ -17,7 +17,7 @@ pub size-most : (d n : ℕ) → windowSize d n ≤ n
 unfolding windowSize
 size-most d n = omega arith
 
--- It ends within the segment, wherever the search came to.
+-- It ends within the segment, whatever place the search found.
 pub start-inside : (l c n : ℕ) → c ≤ n → windowStart l c n + c ≤ n
 unfolding windowStart
 start-inside l c n h = omega arith

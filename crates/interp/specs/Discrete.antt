@@ -1,8 +1,7 @@
--- Types 9 and 13 over a kernel's bytes: n states of 48 bytes from byte p on, and behind them their n epochs.
+-- Types 9 and 13 over a kernel's bytes: n states of 48 bytes from byte p on, and after them their n epochs.
 use Prim.Native.Nat.{ℕ, _+_, _*_}
 use mathlib.Core.List.{List}
 use lib.Ieee.{Float}
-use Rattle.bits.specs.F64.{_⊕_, _⊗_, _⊘_}
 use Rattle.bits.specs.Bytes.{every}
 use Rattle.frame.specs.declared.State.{State}
 use Rattle.hermite.specs.Axes.{hermiteAt}
@@ -28,22 +27,3 @@ type9Of s p n d et = let w = windowAt s p n d et in lagrangeAt s (p + 48 * w) (p
 -- Type 13 at et: n states from byte p on, of window size d + 1.
 unfoldable pub type13Of : List ℕ → ℕ → ℕ → ℕ → Float → State
 type13Of s p n d et = let w = windowAt s p n d et in hermiteAt s (p + 48 * w) (p + 48 * n + 8 * w) (windowSize d n) et
-
--- ---- what the small functions of the code do
-
--- A share of each number of y, added to that of sum.
-abbrev pub withShare : State → Float → State → State
-withShare sum share y =
-    record {
-      x = sum .x ⊕ share ⊗ y .x;
-      y = sum .y ⊕ share ⊗ y .y;
-      z = sum .z ⊕ share ⊗ y .z;
-      vx = sum .vx ⊕ share ⊗ y .vx;
-      vy = sum .vy ⊕ share ⊗ y .vy;
-      vz = sum .vz ⊕ share ⊗ y .vz;
-    }
-
--- Each number over the same one.
-abbrev pub overAll : State → Float → State
-overAll sum all =
-    record { x = sum .x ⊘ all; y = sum .y ⊘ all; z = sum .z ⊘ all; vx = sum .vx ⊘ all; vy = sum .vy ⊘ all; vz = sum .vz ⊘ all }

@@ -2,3 +2,4 @@
 pub mod Window
 pub mod Lagrange
 pub mod Discrete
+pub mod Steps

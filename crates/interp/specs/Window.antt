@@ -6,7 +6,7 @@ use lib.Dec.{ltb}
 use lib.Ieee.{Float, le}
 use Rattle.bits.specs.Bytes.{every}
 
--- The place that bisection of lo .. hi comes to, in at most d turns: p says of a place whether its epoch is at or below the one asked.
+-- The place that bisection of lo .. hi finds, in at most d turns: p says of a place whether its epoch is at or below the one asked.
 -- It is defined by its own run, for any epochs, sorted or not. With d at least hi - lo it ends because lo meets hi.
 unfoldable pub bisect : (ℕ → Bool) → ℕ → ℕ → ℕ → ℕ
 bisect p zero lo hi = lo
@@ -16,7 +16,7 @@ bisect p (suc d) lo hi =
     let down = bisect p d lo m in
     cond (ltb lo hi) (cond (p m) up down) lo
 
--- The place before the one that the search over 0 .. n comes to, and 0 if there is none.
+-- The place before the one that the search over 0 .. n finds, and 0 if there is none.
 unfoldable pub leftOf : (ℕ → Bool) → ℕ → ℕ
 unfolding bisect
 leftOf p n = bisect p n 0 n - 1

@@ -8,7 +8,8 @@ ghost use lib.ListN.{length};
 ghost use Rattle.bits.specs.F64.{at};
 ghost use Rattle.bits.specs.Bytes.{every};
 ghost use Rattle.interp.specs.Lagrange.{nodeOf, weightOf, blendOf};
-ghost use Rattle.interp.specs.Discrete.{six, lagrangeAt, withShare, overAll};
+ghost use Rattle.interp.specs.Discrete.{six, lagrangeAt};
+ghost use Rattle.interp.specs.Steps.{withShare, overAll};
 
 // The first c epochs from byte e on.
 fn epochs_at(kernel: &[u8], e: usize, c: usize) -> [f64; 32]

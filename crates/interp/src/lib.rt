@@ -58,7 +58,7 @@ pub fn left_at(kernel: &[u8], p: usize, n: usize, et: f64) -> usize
     less(lo, 1)
 }
 
-// Where the window for et starts, in a segment of n states from byte p on and their epochs behind them.
+// Where the window for et starts, in a segment of n states from byte p on and their epochs after them.
 pub fn window_at(kernel: &[u8], p: usize, n: usize, degree: u64, et: f64) -> usize
     requires { ⌜ (1 ≤ n) × (p + 56 * n ≤ length (now kernel)) ⌝ }
     ensures { λ r. ⌜ r ≡ windowAt (now (kernel .entry)) p n degree et ⌝ }

@@ -1,5 +1,5 @@
 -- A call of each function that the walks call, as one step: what stands before it, what its operands are to give, and what stands after it.
---     calls-told      the rule behind each: the callee's `pre` at the head, its result known to be s  ⟶  the tokens, and s's machine value lands
+--     calls-told      the rule of each: the callee's `pre` at the head, its result known to be s  ⟶  the tokens, and s's machine value lands
 --     calls-F         […]  ⟶  […], where F takes no slice: what its arguments own is made for the call
 --                     [what the slice owns; its token; …]  ⟶  the same, where F takes one; locals stand where they stood
 --                     [what k owns; its token; what t owns; its token; …]  ⟶  the same, where F takes both; in the operands a local stands one place earlier
@@ -40,7 +40,7 @@ use denote.Triple.Walked.{says}
 use Rattle.daf.specs.declared.Family.the-variants.{Spk}
 use Rattle.daf.specs.declared.Family.{Family}
 use Rattle.daf.specs.declared.Cursor.{Cursor}
-use Rattle.daf.specs.Reading.{nextCursor}
+use Rattle.daf.specs.Steps.{nextCursor}
 use Rattle.segment.specs.declared.Segment.{Segment}
 use Rattle.segment.specs.declared.Evaluated.{Evaluated}
 use Rattle.segment.specs.Evaluating.{evaluated}
@@ -61,7 +61,7 @@ use Rattle.spk.specs.declared.Memory.{Memory as Remembered}
 use Rattle.spk.specs.declared.Answer.{Answer}
 use Rattle.spk.specs.declared.Asked.{Asked}
 use Rattle.spk.specs.Questions.{hits, swapped}
-use Rattle.spk.specs.Finding.{hitAt, placeKept, recalledBy, aloneWith, isEarly, earlyAnswer, isFailed}
+use Rattle.spk.specs.Steps.{hitAt, placeKept, recalledBy, aloneWith, isEarly, earlyAnswer, isFailed}
 use Rattle.spk.specs.declared.Way.the-variants.{Forward, Reversed, Chained}
 use Rattle.spk.specs.Choosing.{recall, forwardIn, lastReversed, rememberedAt}
 use Rattle.spk.specs.Answers.{differenceOf, settled, negatedOf}
@@ -71,17 +71,17 @@ use Rattle.frame.specs.Frame.{Matrix}
 use Rattle.spk.specs.declared.Wanted.{Wanted}
 use Rattle.spk.specs.Turning.{turnedAsked, askedIn}
 use Rattle.spk.specs.Alone.{aloneAnswer}
-use Rattle.spk.specs.Paper.{answerTold, askedTold}
+use Rattle.spk.specs.Told.{answerTold, askedTold}
 use Rattle.pck.specs.Alone as turning
-use Rattle.pck.specs.Paper.{orientedTold}
+use Rattle.pck.specs.Told.{orientedTold}
 use Rattle.pck.specs.Orienting.{oriented}
 use Rattle.chain.specs.Steps.{isOver, endOf, legOf, begin}
 use Rattle.pck.specs.declared.Question.{Question as BodyQuestion}
 use Rattle.pck.specs.declared.Oriented.{Oriented}
-use Rattle.pck.specs.Finding.{bodyHits, bodyAt}
+use Rattle.pck.specs.Steps.{bodyHits, bodyAt}
 use Rattle.opening.specs.declared.Plan.{Plan}
 use Rattle.opening.specs.declared.Found.{Found}
-use Rattle.opening.specs.Planning.{Here, hereOf, planOf, countIn, cursorIn, foundIn, marksFor}
+use Rattle.opening.specs.Steps.{Here, hereOf, planOf, countIn, cursorIn, foundIn, marksFor}
 use Rattle.lent.proofs.Telling.{first-said}
 use Rattle.lent.proofs.Seg.{Seg, val, tells, makes}
 use Rattle.lent.proofs.Matrices.{Mat, mat, mat-makes}
@@ -170,8 +170,8 @@ use Rattle.spk.proofs.is_early as m-is-early
 use Rattle.spk.proofs.is_early.Symbol.{name as #is-early}
 use Rattle.spk.proofs.early as m-early
 use Rattle.spk.proofs.early.Symbol.{name as #early}
-use Rattle.spk.proofs.unchanged as m-unchanged
-use Rattle.spk.proofs.unchanged.Symbol.{name as #unchanged}
+use Rattle.spk.proofs.with_memory as m-with-memory
+use Rattle.spk.proofs.with_memory.Symbol.{name as #with-memory}
 use Rattle.lent.proofs.state as m-state
 use Rattle.lent.proofs.state.Symbol.{name as #state}
 use Rattle.spk.proofs.turned as m-turned
@@ -194,7 +194,7 @@ use Rattle.table.proofs.name_in as m-name-in
 use Rattle.table.proofs.name_in.Symbol.{name as #name-in}
 use Rattle.lent.proofs.name as m-name
 use Rattle.lent.proofs.name.Symbol.{name as #name}
-use Rattle.pck.specs.Finding.{isEarly as bodyEarly, earlyOriented}
+use Rattle.pck.specs.Steps.{isEarly as bodyEarly, earlyOriented}
 use Rattle.pck.specs.Orienting as orienting
 use Rattle.pck.specs.Orienting.{refusedOriented, noCoverage}
 use Rattle.daf.specs.declared.Family.the-variants.{Pck}
@@ -215,7 +215,7 @@ use Rattle.spk.proofs.Memory.after.Symbol.{name as #after}
 use Rattle.spk.proofs.forward as m-forward
 use Rattle.spk.proofs.forward.Symbol.{name as #forward}
 
--- the rest of a body behind its first statements
+-- the rest of a body after its first statements
 abbrev pub rest-of : Body → Body
 rest-of skip = skip
 rest-of (seq a b) = b
@@ -452,8 +452,8 @@ module _ {M : Type 1} (𝓤 : URA M) (H : Heap 𝓤) (A : Atoms 𝓤) (mem : Mem
   abbrev pub the-early : Contract 𝓤
   the-early = tripleOf 𝓤 H A m-early.signature (m-early.spec 𝓤 H A mem run)
 
-  abbrev pub the-unchanged : Contract 𝓤
-  the-unchanged = tripleOf 𝓤 H A m-unchanged.signature (m-unchanged.spec 𝓤 H A mem run)
+  abbrev pub the-with-memory : Contract 𝓤
+  the-with-memory = tripleOf 𝓤 H A m-with-memory.signature (m-with-memory.spec 𝓤 H A mem run)
 
   abbrev pub the-state : Contract 𝓤
   the-state = tripleOf 𝓤 H A m-state.signature (m-state.spec 𝓤 H A mem run)
@@ -1499,28 +1499,28 @@ module _ {M : Type 1} (𝓤 : URA M) (H : Heap 𝓤) (A : Atoms 𝓤) (mem : Mem
         calls-early fm known is-p is-n is-m is-x os go =
             use0 W (raw (the-early .pre to-early)) (asks-early is-p is-n is-m is-x) $ calls-told fm the-early to-early (known to-early) Ask ask (ask-tells) (‵ ftrue) (λ r. ensured 𝓤 H A m-early.ended (m-early.clauses 𝓤 H A mem run) tt (p, (n, (m, (x, tt)))) tt r) (λ u. id⊢ 𝓤 _) out-early said-early os (λ is. drop ! $ go is)
 
-  -- ---- unchanged
+  -- ---- with-memory
   module _ (a : Answer) (m : Remembered) where
-    abbrev pub to-unchanged : the-unchanged .Ghost
-    to-unchanged = ((tt, tt, tt, (a, (m, tt)), (ans a ∷ [], (mmy m ∷ [], tt))), tt)
+    abbrev pub to-with-memory : the-with-memory .Ghost
+    to-with-memory = ((tt, tt, tt, (a, (m, tt)), (ans a ∷ [], (mmy m ∷ [], tt))), tt)
 
-    abbrev pub out-unchanged : Asked
-    out-unchanged = record { answer = a; memory = m }
+    abbrev pub out-with-memory : Asked
+    out-with-memory = record { answer = a; memory = m }
 
     module _ (W : Given 𝓤 H A) where
-      asks-unchanged : Is Ans a (ans a ∷ []) → Is Mem m (mmy m ∷ []) → ent 𝓤 (emp 𝓤) (the-unchanged .pre to-unchanged)
-      asks-unchanged is-a is-m = qed W [] ∵ nothing ! $ owned ! Mem (Is Mem) (mmy-makes 𝓤 H A W) m _ is-m $ fjoin ! $ owned ! Ans (Is Ans) (ans-makes 𝓤 H A W) a _ is-a $ fjoin ! $ nothing ! $ join ! $ frame ! $ done !
+      asks-with-memory : Is Ans a (ans a ∷ []) → Is Mem m (mmy m ∷ []) → ent 𝓤 (emp 𝓤) (the-with-memory .pre to-with-memory)
+      asks-with-memory is-a is-m = qed W [] ∵ nothing ! $ owned ! Mem (Is Mem) (mmy-makes 𝓤 H A W) m _ is-m $ fjoin ! $ owned ! Ans (Is Ans) (ans-makes 𝓤 H A W) a _ is-a $ fjoin ! $ nothing ! $ join ! $ frame ! $ done !
 
-      said-unchanged : (r : Asked) → ent 𝓤 (ensured 𝓤 H A m-unchanged.ended (m-unchanged.clauses 𝓤 H A mem run) tt (a, (m, tt)) tt r) (fact 𝓤 (r ≡ out-unchanged))
-      said-unchanged r = exE 𝓤 _ (λ ws. snd∗ 𝓤 (sem 𝓤 H A (lasts m-unchanged.ended tt (a, (m, tt)) ws)) (fact 𝓤 (r ≡ out-unchanged)))
+      said-with-memory : (r : Asked) → ent 𝓤 (ensured 𝓤 H A m-with-memory.ended (m-with-memory.clauses 𝓤 H A mem run) tt (a, (m, tt)) tt r) (fact 𝓤 (r ≡ out-with-memory))
+      said-with-memory r = exE 𝓤 _ (λ ws. snd∗ 𝓤 (sem 𝓤 H A (lasts m-with-memory.ended tt (a, (m, tt)) ws)) (fact 𝓤 (r ≡ out-with-memory)))
 
       module _ {C : Calls 𝓤 H} {Λ : Loops 𝓤 H} {E : Env 𝓤 H} {Γ : List (Item 𝓤)} {xs : List Opd} {d : Place} {rest : Body} {Q : Post 𝓤 H} where
-        pub calls-unchanged : FmC 𝓤 H (W .laws) C → Triple 𝓤 (C #unchanged) the-unchanged → Is Ans a (ans a ∷ []) → Is Mem m (mmy m ∷ [])
-            → Opds (Go {0}) W (raw (the-unchanged .pre to-unchanged) ∷ Γ) E xs (ans a ∷ mmy m ∷ [])
-            → (Is Ask out-unchanged (ask out-unchanged ∷ []) → Sq W Γ (lands C Λ E d (ask out-unchanged) rest Q))
-            → Sq W Γ (runs C Λ E (seq (call #unchanged xs d) rest) Q)
-        calls-unchanged fm known is-a is-m os go =
-            use0 W (raw (the-unchanged .pre to-unchanged)) (asks-unchanged is-a is-m) $ calls-told fm the-unchanged to-unchanged (known to-unchanged) Ask ask (ask-tells) (‵ ftrue) (λ r. ensured 𝓤 H A m-unchanged.ended (m-unchanged.clauses 𝓤 H A mem run) tt (a, (m, tt)) tt r) (λ u. id⊢ 𝓤 _) out-unchanged said-unchanged os (λ is. drop ! $ go is)
+        pub calls-with-memory : FmC 𝓤 H (W .laws) C → Triple 𝓤 (C #with-memory) the-with-memory → Is Ans a (ans a ∷ []) → Is Mem m (mmy m ∷ [])
+            → Opds (Go {0}) W (raw (the-with-memory .pre to-with-memory) ∷ Γ) E xs (ans a ∷ mmy m ∷ [])
+            → (Is Ask out-with-memory (ask out-with-memory ∷ []) → Sq W Γ (lands C Λ E d (ask out-with-memory) rest Q))
+            → Sq W Γ (runs C Λ E (seq (call #with-memory xs d) rest) Q)
+        calls-with-memory fm known is-a is-m os go =
+            use0 W (raw (the-with-memory .pre to-with-memory)) (asks-with-memory is-a is-m) $ calls-told fm the-with-memory to-with-memory (known to-with-memory) Ask ask (ask-tells) (‵ ftrue) (λ r. ensured 𝓤 H A m-with-memory.ended (m-with-memory.clauses 𝓤 H A mem run) tt (a, (m, tt)) tt r) (λ u. id⊢ 𝓤 _) out-with-memory said-with-memory os (λ is. drop ! $ go is)
 
   -- ---- state
   module _ (κ κ′ : Lft) (q q′ : Share) (k : RefT (List ℕ)) (t : RefT (List Segment)) (n : ℕ) (m : Remembered) (x : Question) where

@@ -37,7 +37,7 @@ use Rattle.daf.specs.declared.Cursor.{Cursor}
 use Rattle.segment.specs.declared.Segment.{Segment}
 use Rattle.table.specs.Marks.{markedTo}
 use Rattle.opening.specs.declared.Plan.{Plan}
-use Rattle.opening.specs.Planning.{Ready, filled, Fits, carriedOut}
+use Rattle.opening.specs.Steps.{Ready, filled, Fits, carriedOut}
 use Rattle.lent.proofs.Seg.{Seg, val, makes}
 use Rattle.lent.proofs.Rows.{Fam, fam, fam-makes, Cur, cur, cur-makes, Pla, pla, pla-makes}
 use Rattle.lent.proofs.Again.{LentAgain, lends-again, comes-back}

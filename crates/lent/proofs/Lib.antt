@@ -2,6 +2,7 @@
 pub mod Again
 pub mod Calls
 pub mod CallsMut
+pub mod Filling
 pub mod Matrices
 pub mod Owner
 pub mod Rows

@@ -46,7 +46,7 @@ use Rattle.daf.specs.declared.Family.{Family}
 use Rattle.segment.specs.declared.Segment.{Segment}
 use Rattle.table.specs.Segments.{emptySegment}
 use Rattle.opening.specs.declared.Plan.{Plan}
-use Rattle.opening.specs.Planning.{Fits, carriedOut}
+use Rattle.opening.specs.Steps.{Fits, carriedOut}
 use Rattle.table.specs.Places.{emptyPlaces}
 use Rattle.lent.proofs.Seg.{Seg, Seg-ty, val, vals, tells, lawful, makes}
 use Rattle.lent.proofs.Rows.{Fam, fam, fam-makes, Pla, pla, pla-makes}

@@ -12,21 +12,19 @@ ghost use Rattle.table.specs.Naming.{nameAt};
 ghost use Rattle.table.specs.Places.{lentLimit, limitOf};
 ghost use Rattle.table.specs.Segments.{seg};
 ghost use Rattle.table.specs.Steps.{segOr};
-ghost use Rattle.opening.specs.Planning.{Ready, filled, Fits, carriedOut};
+ghost use Rattle.opening.specs.Steps.{Ready, filled, Fits, carriedOut};
 ghost use Rattle.opening.specs.Lent.{found, tableAfter};
-ghost use Rattle.opening.specs.Paper.{foundTold};
+ghost use Rattle.opening.specs.Told.{foundTold};
 ghost use Rattle.chain.specs.Step.{stepFrom};
 ghost use Rattle.chain.specs.Walk.{follow, walkFrom};
-ghost use Rattle.spk.specs.Alone.{aloneAnswer};
-ghost use Rattle.spk.specs.Asking.{chained, backward, answerTo, asked};
+ghost use Rattle.spk.specs.Answering.{lentAsked, lentAskedIn, lentAlone};
+ghost use Rattle.spk.specs.Asking.{chained, backward, answerTo};
 ghost use Rattle.spk.specs.Choosing.{recall, forwardIn, lastReversed};
 ghost use Rattle.spk.specs.Questions.{hits};
-ghost use Rattle.spk.specs.Turning.{askedIn};
-ghost use Rattle.spk.specs.Paper.{answerTold, askedTold};
-ghost use Rattle.pck.specs.Alone.{aloneOriented};
-ghost use Rattle.pck.specs.Finding.{bodyHits};
-ghost use Rattle.pck.specs.Orienting.{oriented};
-ghost use Rattle.pck.specs.Paper.{orientedTold};
+ghost use Rattle.spk.specs.Told.{answerTold, askedTold};
+ghost use Rattle.pck.specs.Answering.{lentOriented, lentAloneOriented};
+ghost use Rattle.pck.specs.Steps.{bodyHits};
+ghost use Rattle.pck.specs.Told.{orientedTold};
 use chain::Leg;
 use chain::Next;
 use chain::Step;
@@ -186,8 +184,8 @@ fn backward(kernel: &[u8], table: &[Segment], n: usize, q: Question) -> Answer
 
 // A question with a memory, over the first n of the lent segments.
 pub fn state(kernel: &[u8], table: &[Segment], n: usize, memory: Memory, q: Question) -> Asked
-    ensures { λ r. ⌜ r ≡ asked (limitOf (length (now (table .entry)))) (evaluated Spk (now (kernel .entry))) (now (table .entry)) n memory q ⌝ }
-    ensures told { λ r. ⌜ askedTold r ≡ askedTold (asked (limitOf (length (now (table .entry)))) (evaluated Spk (now (kernel .entry))) (now (table .entry)) n memory q) ⌝ }
+    ensures { λ r. ⌜ r ≡ lentAsked (now (kernel .entry)) (now (table .entry)) n memory q ⌝ }
+    ensures told { λ r. ⌜ askedTold r ≡ askedTold (lentAsked (now (kernel .entry)) (now (table .entry)) n memory q) ⌝ }
 {
     let places = table_len(table);
     if spk::is_early(places, n, q) {
@@ -202,7 +200,7 @@ pub fn state(kernel: &[u8], table: &[Segment], n: usize, memory: Memory, q: Ques
         return spk::forward(kernel, kept, i, s, q);
     }
     let a = backward(kernel, table, n, q);
-    spk::unchanged(a, memory)
+    spk::with_memory(a, memory)
 }
 
 // A question in a frame.
@@ -215,8 +213,8 @@ pub fn state_in(
     wanted: Wanted,
     rot: [[f64; 3]; 3],
 ) -> Asked
-    ensures { λ r. ⌜ r ≡ askedIn (limitOf (length (now (table .entry)))) (evaluated Spk (now (kernel .entry))) (now (table .entry)) n memory q wanted rot ⌝ }
-    ensures told { λ r. ⌜ askedTold r ≡ askedTold (askedIn (limitOf (length (now (table .entry)))) (evaluated Spk (now (kernel .entry))) (now (table .entry)) n memory q wanted rot) ⌝ }
+    ensures { λ r. ⌜ r ≡ lentAskedIn (now (kernel .entry)) (now (table .entry)) n memory q wanted rot ⌝ }
+    ensures told { λ r. ⌜ askedTold r ≡ askedTold (lentAskedIn (now (kernel .entry)) (now (table .entry)) n memory q wanted rot) ⌝ }
 {
     let a = state(kernel, table, n, memory, q);
     spk::turned(a, wanted, rot)
@@ -236,8 +234,8 @@ pub fn name<'a, 'b>(kernel: &'a [u8], table: &'b [Segment], n: usize, number: us
 
 // A segment evaluated alone by its number, covering or not.
 pub fn alone(kernel: &[u8], table: &[Segment], n: usize, number: usize, et: f64) -> Answer
-    ensures { λ r. ⌜ r ≡ aloneAnswer (limitOf (length (now (table .entry)))) (evaluated Spk (now (kernel .entry))) (now (table .entry)) n number et ⌝ }
-    ensures told { λ r. ⌜ answerTold r ≡ answerTold (aloneAnswer (limitOf (length (now (table .entry)))) (evaluated Spk (now (kernel .entry))) (now (table .entry)) n number et) ⌝ }
+    ensures { λ r. ⌜ r ≡ lentAlone (now (kernel .entry)) (now (table .entry)) n number et ⌝ }
+    ensures told { λ r. ⌜ answerTold r ≡ answerTold (lentAlone (now (kernel .entry)) (now (table .entry)) n number et) ⌝ }
 {
     let places = table_len(table);
     let m = table::counted(places, n);
@@ -349,8 +347,8 @@ fn last_body(table: &[Segment], n: usize, q: pck::Question) -> Choice
 
 // The orientation of a body frame, over the first n of the lent segments.
 pub fn orient(kernel: &[u8], table: &[Segment], n: usize, q: pck::Question) -> pck::Oriented
-    ensures { λ r. ⌜ r ≡ oriented (limitOf (length (now (table .entry)))) (now (kernel .entry)) (now (table .entry)) n q ⌝ }
-    ensures told { λ r. ⌜ orientedTold r ≡ orientedTold (oriented (limitOf (length (now (table .entry)))) (now (kernel .entry)) (now (table .entry)) n q) ⌝ }
+    ensures { λ r. ⌜ r ≡ lentOriented (now (kernel .entry)) (now (table .entry)) n q ⌝ }
+    ensures told { λ r. ⌜ orientedTold r ≡ orientedTold (lentOriented (now (kernel .entry)) (now (table .entry)) n q) ⌝ }
 {
     let places = table_len(table);
     if pck::is_early(places, n, q) {
@@ -373,8 +371,8 @@ pub fn orient_alone(
     number: usize,
     et: f64,
 ) -> pck::Oriented
-    ensures { λ r. ⌜ r ≡ aloneOriented (limitOf (length (now (table .entry)))) (now (kernel .entry)) (now (table .entry)) n number et ⌝ }
-    ensures told { λ r. ⌜ orientedTold r ≡ orientedTold (aloneOriented (limitOf (length (now (table .entry)))) (now (kernel .entry)) (now (table .entry)) n number et) ⌝ }
+    ensures { λ r. ⌜ r ≡ lentAloneOriented (now (kernel .entry)) (now (table .entry)) n number et ⌝ }
+    ensures told { λ r. ⌜ orientedTold r ≡ orientedTold (lentAloneOriented (now (kernel .entry)) (now (table .entry)) n number et) ⌝ }
 {
     let places = table_len(table);
     let m = table::counted(places, n);

@@ -1,7 +1,7 @@
--- Texts put one behind the other, fields of a struct, and what `io`'s digits come to. Assumes nothing.
+-- Texts put one after the other, fields of a struct, and what `io`'s digits are. Assumes nothing.
 use mathlib.Core.Path.{_≡_, refl, sym, ap, ap₂, _∙_, subst}
 use mathlib.Core.Bool.{Bool, true, false, cond}
-use mathlib.Core.List.{List, [], _∷_, _++_, append-assoc}
+use mathlib.Core.List.{List, [], _∷_, _++_, append-assoc, append-nil}
 use Prim.Native.Nat.{ℕ, zero, suc, _+_, _-_, _*_, _/_, _%_, _^_, _≤_, _<_}
 use native.Mathlib.Nat.{le-antisymm, lt-of-lt-of-le, mod-eq-of-lt, div-lt-iff-lt-mul, le-div-iff-mul-le, pow-suc, one-le-pow, pow-le-pow-right}
 use native.Mathlib.Omega.{arith}
@@ -18,7 +18,7 @@ use Rattle.io.specs.Digits.{glyph, digits, Fewest}
 use Rattle.lines.specs.Text.{decimalIn, decimalText, fieldText}
 use Rattle.lines.specs.Written.{Written}
 
--- one text behind another
+-- one text after another
 pub then : {before : List ℕ} {at : ℕ} {first second : List ℕ} {middle after : List ℕ} {next last : ℕ}
     → Written before at first middle next → Written middle next second after last → Written before at (first ++ second) after last
 then {before} {at} {first} {second} {middle} {after} {next} {last} a b = record {
@@ -33,7 +33,26 @@ then {before} {at} {first} {second} {middle} {after} {next} {last} a b = record 
       ∙ ap (λ (k : ℕ). drop k before) (sym (b .ends));
 }
 
--- any two buffers and places that it permits are equal
+-- no text
+none : (before : List ℕ) (at : ℕ) → Written before at [] before at
+none before at = record { ends = omega arith; reads = sym (append-nil (take at before)); rest = refl }
+
+-- ---- a text that is put line by line into the buffer `before`: `left` of it is to be put at `at` into what the buffer is by now
+pub record Rest (before text : List ℕ) (at : ℕ) (by-now left : List ℕ) : Type 0 where
+  pub put : (after : List ℕ) (next : ℕ) → Written by-now at left after next → Written before 0 text after next
+
+pub rest-first : (before text : List ℕ) → Rest before text 0 before text
+rest-first before text = record { put = λ after next w. w }
+
+pub rest-line : {before text : List ℕ} {at : ℕ} {by-now left : List ℕ} (line later : List ℕ) (now' : List ℕ) (at' : ℕ)
+    → Rest before text at by-now left → left ≡ line ++ later → Written by-now at line now' at' → Rest before text at' now' later
+rest-line {at} {by-now} line later now' at' r e w =
+    record { put = λ after next v. r .put after next (subst (λ (l : List ℕ). Written by-now at l after next) (sym e) (then w v)) }
+
+pub rest-last : {before text : List ℕ} {at : ℕ} {by-now left : List ℕ} → Rest before text at by-now left → left ≡ [] → Written before 0 text by-now at
+rest-last {at} {by-now} r e = r .put by-now at (subst (λ (l : List ℕ). Written by-now at l by-now at) (sym e) (none by-now at))
+
+-- ---- any two buffers and places that it permits are equal
 pub two-texts : {before : List ℕ} {at : ℕ} {text : List ℕ} (after after' : List ℕ) (next next' : ℕ)
     → Written before at text after next → Written before at text after' next' → (after ≡ after') × (next ≡ next')
 two-texts {before} {at} {text} after after' next next' a b = (

@@ -19,6 +19,8 @@ use Rattle.lines.proofs.put_number as m-put-number
 use Rattle.lines.proofs.put_state as m-put-state
 use Rattle.lines.proofs.put_tail as m-put-tail
 use Rattle.lines.proofs.put_refusal as m-put-refusal
+use Rattle.lines.proofs.put_numbered_refusal as m-put-numbered-refusal
+use Rattle.lines.proofs.room as m-room
 
 module _ {M : Type 1} (𝓤 : URA M) (H : Heap 𝓤) (A : Atoms 𝓤) (mem : Memory → SProp 𝓤) (run : Routine → Fun 𝓤) where
   pub two-bits-of : Determined 𝓤 m-bits-of.ended (m-bits-of.clauses 𝓤 H A mem run)
@@ -47,3 +49,9 @@ module _ {M : Type 1} (𝓤 : URA M) (H : Heap 𝓤) (A : Atoms 𝓤) (mem : Mem
 
   pub two-put-refusal : Determined 𝓤 m-put-refusal.ended (m-put-refusal.clauses 𝓤 H A mem run)
   two-put-refusal κs a g r r' ws ws' = first-alike 𝓤 (two-buffers (ws .1))
+
+  pub two-put-numbered-refusal : Determined 𝓤 m-put-numbered-refusal.ended (m-put-numbered-refusal.clauses 𝓤 H A mem run)
+  two-put-numbered-refusal κs a g r r' ws ws' = first-alike 𝓤 (two-buffers (ws .1))
+
+  pub two-room : Determined 𝓤 m-room.ended (m-room.clauses 𝓤 H A mem run)
+  two-room κs a g r r' ws ws' = equal 𝓤 refl

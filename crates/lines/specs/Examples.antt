@@ -4,8 +4,9 @@ use mathlib.Core.Bool.{false, true}
 use mathlib.Core.List.{List, [], _∷_, map}
 use lib.IntN.{ℤ, pos, negsuc}
 use lib.Ieee.{fin, toBits}
-use Rattle.refusal.specs.declared.Refusal.the-variants.{NoCoverage}
-use Rattle.lines.specs.Text.{decimalText, signedText, numberText, refusalText}
+use Rattle.refusal.specs.declared.Refusal.the-variants.{EpochNan, NoCoverage}
+use Rattle.lines.specs.Text.{decimalText, signedText, numberText, refusalText, numberedRefusalText}
+use Rattle.lines.specs.Lines.{textLines}
 
 -- 0, 10 and the largest number of 64 bits: 18446744073709551615.
 pub decimals : map decimalText (0 ∷ 10 ∷ 0xffff_ffff_ffff_ffff ∷ []) ≡
@@ -18,7 +19,7 @@ pub signs : map signedText (negsuc 0 ∷ pos 399 ∷ []) ≡ (45 ∷ 49 ∷ []) 
 unfolding signedText
 signs = refl
 
--- Document 01's 10.0, which is 5 * 2 ^ 1: 4024000000000000. And -0: 8000000000000000.
+-- The 10.0 of RULES, "Worked numbers", which is 5 * 2 ^ 1: 4024000000000000. And -0: 8000000000000000.
 pub tens : numberText (fin false 5 (pos 1)) ≡ 32 ∷ 52 ∷ 48 ∷ 50 ∷ 52 ∷ 48 ∷ 48 ∷ 48 ∷ 48 ∷ 48 ∷ 48 ∷ 48 ∷ 48 ∷ 48 ∷ 48 ∷ 48 ∷ 48 ∷ []
 unfolding numberText toBits
 tens = refl
@@ -31,3 +32,17 @@ zeros = refl
 pub refused : refusalText (NoCoverage (negsuc 4)) ≡ 114 ∷ 101 ∷ 102 ∷ 117 ∷ 115 ∷ 101 ∷ 100 ∷ 32 ∷ 49 ∷ 49 ∷ 32 ∷ 45 ∷ 53 ∷ 10 ∷ []
 unfolding refusalText
 refused = refl
+
+-- `7 refused 10 0` and a newline: question 7 with the epoch NaN.
+pub numbered : numberedRefusalText 7 EpochNan ≡ 55 ∷ 32 ∷ 114 ∷ 101 ∷ 102 ∷ 117 ∷ 115 ∷ 101 ∷ 100 ∷ 32 ∷ 49 ∷ 48 ∷ 32 ∷ 48 ∷ 10 ∷ []
+unfolding numberedRefusalText
+numbered = refl
+
+-- `7`, an empty line and `8 9`, each with a newline; then the same with no newline at the end.
+pub three : textLines (55 ∷ 10 ∷ 10 ∷ 56 ∷ 32 ∷ 57 ∷ 10 ∷ []) ≡ (55 ∷ 10 ∷ []) ∷ (10 ∷ []) ∷ (56 ∷ 32 ∷ 57 ∷ 10 ∷ []) ∷ []
+unfolding textLines
+three = refl
+
+pub unended : textLines (55 ∷ 10 ∷ 10 ∷ 56 ∷ 32 ∷ 57 ∷ []) ≡ (55 ∷ 10 ∷ []) ∷ (10 ∷ []) ∷ (56 ∷ 32 ∷ 57 ∷ []) ∷ []
+unfolding textLines
+unended = refl

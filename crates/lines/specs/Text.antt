@@ -35,15 +35,15 @@ unfolding decimalText
 signedText (pos n) = decimalText n
 signedText (negsuc n) = minus ∷ decimalText (suc n)
 
--- A signed number behind a space.
+-- A signed number after a space.
 unfoldable pub fieldText : ℤ → List ℕ
 fieldText z = (space ∷ []) ++ signedText z
 
--- The bits of a double in 16 lower-case hexadecimal digits, behind a space.
+-- The bits of a double in 16 lower-case hexadecimal digits, after a space.
 unfoldable pub numberText : Float → List ℕ
 numberText x = space ∷ digits 16 16 (toBits binary64 x)
 
--- The six numbers of a state, each behind a space.
+-- The six numbers of a state, each after a space.
 unfoldable pub stateText : State → List ℕ
 unfolding numberText
 stateText s = numberText (s .x) ++ (numberText (s .y) ++ (numberText (s .z) ++ (numberText (s .vx) ++ (numberText (s .vy) ++ numberText (s .vz)))))
@@ -60,3 +60,8 @@ refusedWord = 114 ∷ 101 ∷ 102 ∷ 117 ∷ 115 ∷ 101 ∷ 100 ∷ space ∷ 
 unfoldable pub refusalText : Refusal → List ℕ
 unfolding decimalText signedText
 refusalText r = refusedWord ++ (decimalText (numberOf r) ++ ((space ∷ []) ++ (signedText (detailOf r) ++ (newline ∷ []))))
+
+-- The line of a refused question: its number, then that line. The line of a refused run has no number before it.
+unfoldable pub numberedRefusalText : ℕ → Refusal → List ℕ
+unfolding decimalText refusalText
+numberedRefusalText i r = decimalText i ++ ((space ∷ []) ++ refusalText r)

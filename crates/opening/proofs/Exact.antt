@@ -67,7 +67,7 @@ module _ (f : Family) (k : List ℕ) where
       let g = given-some refusedOpening (acceptedOpening tableRead) one-refusal (no-refusal tableRead) (openCases f tableLimit k) r e in
       from-1-to-9 f tableLimit k r (g .0) (g .1) (g .3)
 
-  -- the cases have the paper's numbers, in the paper's order
+  -- the cases have the numbers of RULES, "Refusals", in the order of "Opening"
   pub numbered : map (λ (c : Case). numberOf (c .gives)) (openCases f tableLimit k) ≡ 1 ∷ 2 ∷ 3 ∷ 4 ∷ 5 ∷ 6 ∷ 7 ∷ 8 ∷ 9 ∷ []
   numbered = refl
 

@@ -1,4 +1,4 @@
--- What the plan comes to: it can be filled, and what is filled and marked by it is what the definitions of `specs/Planning.antt` say.
+-- What the plan results in: it can be filled, and what is filled and marked by it is what the definitions of `specs/Steps.antt` say.
 -- Nothing here speaks of a slice. Assumes nothing.
 use Prim.Native.Nat.{ℕ, zero, suc, _+_, _≤_, _<_, zero-le}
 use mathlib.Core.Path.{_≡_, refl, sym, ap, ap₂, _∙_, subst}
@@ -15,7 +15,7 @@ use Rattle.refusal.proofs.Exactly.{first-through}
 use Rattle.daf.specs.Summaries.{anyOver25, place, places, summaryOf}
 use Rattle.daf.specs.FileRecord.{fward}
 use Rattle.daf.specs.Opening.{cases, opening, dafOf}
-use Rattle.daf.specs.Reading.{nextCursor, remaining, Standing}
+use Rattle.daf.specs.Steps.{nextCursor, remaining, Standing}
 use Rattle.daf.specs.declared.Family.{Family}
 use Rattle.daf.specs.declared.Family.the-variants.{Spk, Pck}
 use Rattle.daf.specs.declared.Opened.the-variants.{Accepted as Begins, Refused as Stops}
@@ -30,7 +30,7 @@ use Rattle.opening.specs.Opening.{placesOf, malformedSummary, wellFormed
 use Rattle.opening.specs.declared.Plan.{Plan}
 use Rattle.opening.specs.declared.Plan.the-variants.{Fill, Refuse}
 use Rattle.table.specs.Places.{limitOf}
-use Rattle.opening.specs.Planning.{startOf, planOf, foundIn, marksFor, cursorAt, Ready, filled, Fits, carriedOut}
+use Rattle.opening.specs.Steps.{startOf, planOf, foundIn, marksFor, cursorAt, Ready, filled, Fits, carriedOut}
 use Rattle.opening.specs.Lent.{found, filledWith, markedList, tableAfter}
 use Rattle.table.proofs.Limits.{limit-most}
 use Rattle.opening.proofs.Planning.{no-length, length-map, here-told, filled-length, filled-none, filled-next, cursor-none, cursor-next}
@@ -163,7 +163,7 @@ pub marks-most : (f : Family) (n : ℕ) → marksFor f n ≤ n
 marks-most Spk n = omega arith
 marks-most Pck n = zero-le
 
--- ---- what it comes to
+-- ---- what it results in
 pub found-told : (f : Family) (limit : ℕ) (k : List ℕ) → foundIn (planOf f limit k) ≡ found f limit k
 unfolding planOf found
 found-told f limit k = sym (first-through (openCases f limit k) Refuse (Fill (length (placesOf k)) (startOf k)) foundIn)

@@ -15,7 +15,7 @@ use Rattle.refusal.proofs.Exactly.{first-append, first-through}
 use Rattle.daf.specs.Summaries.{anyOver25, place, places, summaryOf}
 use Rattle.daf.specs.FileRecord.{fward}
 use Rattle.daf.specs.Opening.{cases, opening, dafOf}
-use Rattle.daf.specs.Reading.{Sound, seekOf, nextCursor, remaining, Standing}
+use Rattle.daf.specs.Steps.{Sound, seekOf, nextCursor, remaining, Standing}
 use Rattle.daf.specs.declared.Family.{Family}
 use Rattle.daf.specs.declared.Opened.{Opened as Begun}
 use Rattle.daf.specs.declared.Opened.the-variants.{Accepted as Begins, Refused as Stops}
@@ -32,7 +32,7 @@ use Rattle.table.specs.Places.{lentLimit}
 use Rattle.opening.specs.Opening.{placesOf, malformedSummary, wellFormed, segmentAt, segmentCases}
 use Rattle.opening.specs.declared.Plan.{Plan}
 use Rattle.opening.specs.declared.Plan.the-variants.{Fill, Refuse}
-use Rattle.opening.specs.Planning.{startOf, plannedFrom, planOf, Here, cursorAt, Ready, orEmpty, hereOf, filled}
+use Rattle.opening.specs.Steps.{startOf, plannedFrom, planOf, Here, cursorAt, Ready, orEmpty, hereOf, filled}
 
 -- an accepted opening of the container is the one of the definition
 first-answer : (cs : List Case) (a d : Daf) → firstOf cs Stops (Begins a) ≡ Begins d → a ≡ d

@@ -1,15 +1,15 @@
--- An opening's outcome is told whole in the paper's numbers: two that are told alike are one. Assumes nothing.
+-- An opening's outcome is told whole in the numbers of RULES, "Refusals": two that are told alike are one. Assumes nothing.
 use mathlib.Core.Path.{_≡_, refl, ap, _∙_}
 use mathlib.Core.Bool.{Bool, cond}
 use lib.Dec.{eqb}
-use Rattle.refusal.specs.Paper.{refusedBy}
+use Rattle.refusal.specs.Told.{refusedBy}
 use Rattle.refusal.proofs.Told.{told-back, refusalOf, refusal-of, not-0}
 use Rattle.opening.specs.declared.Found.{Found}
 use Rattle.opening.specs.declared.Found.the-variants.{Accepted, Refused}
-use Rattle.opening.specs.Paper.{Told, foundTold}
+use Rattle.opening.specs.Told.{Told, foundTold}
 
 abbrev foundOf : Told → Found
-foundOf t = cond (eqb (t .paper .number) 0) (Accepted (t .segments)) (Refused (refusalOf (t .paper)))
+foundOf t = cond (eqb (t .numbered .number) 0) (Accepted (t .segments)) (Refused (refusalOf (t .numbered)))
 
 found-of : (o : Found) → foundOf (foundTold o) ≡ o
 found-of (Accepted n) = refl

@@ -1,4 +1,4 @@
--- The opening into a lent table: what it comes to, and what the table holds after it. Assumes nothing: these are definitions.
+-- The opening into a lent table: what it results in, and what the table holds after it. Assumes nothing: these are definitions.
 use Prim.Native.Nat.{ℕ}
 use mathlib.Core.List.{List, _++_}
 use lib.ListN.{length, drop}
@@ -11,7 +11,7 @@ use Rattle.opening.specs.Opening.{placesOf, segmentsOf, openCases}
 use Rattle.opening.specs.declared.Found.{Found}
 use Rattle.opening.specs.declared.Found.the-variants.{Accepted, Refused}
 
--- What the opening comes to.
+-- What the opening results in.
 unfoldable pub found : Family → ℕ → List ℕ → Found
 found f limit k = firstOf (openCases f limit k) Refused (Accepted (length (placesOf k)))
 

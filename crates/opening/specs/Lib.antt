@@ -1,5 +1,5 @@
 -- What the contracts of `opening` cite.
 pub mod Opening
 pub mod Lent
-pub mod Planning
-pub mod Paper
+pub mod Steps
+pub mod Told

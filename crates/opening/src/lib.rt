@@ -2,10 +2,10 @@
 ghost use mathlib.Core.Path.{_≡_};
 ghost use Prim.Native.Nat.{_≤_};
 ghost use Rattle.daf.specs.Opening.{opening};
-ghost use Rattle.daf.specs.Reading.{nextCursor};
+ghost use Rattle.daf.specs.Steps.{nextCursor};
 ghost use Rattle.daf.specs.declared.Opened.the-variants.{Accepted};
 ghost use Rattle.table.specs.Places.{lentLimit, limitOf};
-ghost use Rattle.opening.specs.Planning.{Here, hereOf, plannedFrom, planOf, countIn, cursorIn, foundIn, marksFor};
+ghost use Rattle.opening.specs.Steps.{Here, hereOf, plannedFrom, planOf, countIn, cursorIn, foundIn, marksFor};
 use daf::Cursor;
 use daf::Daf;
 use daf::Family;
@@ -98,7 +98,7 @@ pub fn cursor_in(p: Plan) -> Cursor
     }
 }
 
-// What an opening by a plan comes to.
+// What an opening by a plan results in.
 pub fn found_in(p: Plan) -> Found
     ensures { λ r. ⌜ r ≡ foundIn p ⌝ }
 {
@@ -121,7 +121,7 @@ pub fn segment_here(kernel: &[u8], family: Family, c: Cursor) -> Segment
     }
 }
 
-// The cursor behind a cursor.
+// The cursor after a cursor.
 pub fn cursor_after(kernel: &[u8], c: Cursor) -> Cursor
     requires { ⌜ Here (now kernel) c ⌝ }
     ensures { λ r. ⌜ r ≡ nextCursor (now (kernel .entry)) c ⌝ }

@@ -14,7 +14,7 @@ use Rattle.opening.specs.declared.Opened.{Opened}
 use Rattle.opening.specs.Opening.{placesOf, segmentAt, segmentsOf, tableOf, markedFor, refusedOpening, acceptedOpening, opened, openCases}
 use Rattle.opening.specs.declared.Plan.{Plan}
 use Rattle.opening.specs.declared.Plan.the-variants.{Fill, Refuse}
-use Rattle.opening.specs.Planning.{startOf, planOf, carriedOut}
+use Rattle.opening.specs.Steps.{startOf, planOf, carriedOut}
 use Rattle.opening.specs.Lent.{filledWith, markedList}
 use Rattle.opening.proofs.Planning.{length-map}
 use Rattle.opening.proofs.Planned.{first-two, carried-none, carried-all}

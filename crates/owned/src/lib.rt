@@ -2,19 +2,15 @@
 ghost use mathlib.Core.Path.{_≡_};
 ghost use mathlib.Core.List.{[]};
 ghost use Rattle.daf.specs.declared.Family.the-variants.{Spk, Pck};
-ghost use Rattle.segment.specs.Evaluating.{evaluated};
 ghost use Rattle.table.specs.Naming.{nameAt};
 ghost use Rattle.table.specs.Places.{tableLimit, emptyPlaces};
 ghost use Rattle.opening.specs.Opening.{opened};
-ghost use Rattle.opening.specs.Planning.{Fits, carriedOut};
-ghost use Rattle.opening.specs.Paper.{openedTold};
-ghost use Rattle.spk.specs.Asking.{asked};
-ghost use Rattle.spk.specs.Turning.{askedIn};
-ghost use Rattle.spk.specs.Alone.{aloneAnswer};
-ghost use Rattle.spk.specs.Paper.{memoryTold, answerTold, askedTold};
-ghost use Rattle.pck.specs.Alone.{aloneOriented};
-ghost use Rattle.pck.specs.Orienting.{oriented};
-ghost use Rattle.pck.specs.Paper.{orientedTold};
+ghost use Rattle.opening.specs.Steps.{Fits, carriedOut};
+ghost use Rattle.opening.specs.Told.{openedTold};
+ghost use Rattle.spk.specs.Answering.{ownedAsked, ownedAskedIn, ownedAlone};
+ghost use Rattle.spk.specs.Told.{memoryTold, answerTold, askedTold};
+ghost use Rattle.pck.specs.Answering.{ownedOriented, ownedAloneOriented};
+ghost use Rattle.pck.specs.Told.{orientedTold};
 ghost use Rattle.owned.specs.Owned.{openedBy, openedSpk};
 use daf::Family;
 use opening::Opened;
@@ -28,7 +24,7 @@ use spk::Question;
 use spk::Wanted;
 use table::Table;
 
-// An SPK opened: what the opening comes to, and the memory that the first question takes.
+// An SPK opened: what the opening results in, and the memory that the first question takes.
 pub struct OpenedSpk {
     pub opened: Opened,
     pub memory: Memory,
@@ -106,8 +102,8 @@ pub fn open_spk(kernel: &[u8]) -> OpenedSpk
 
 // A question with a memory.
 pub fn state(kernel: &[u8], table: Table, memory: Memory, q: Question) -> Asked
-    ensures { λ r. ⌜ r ≡ asked tableLimit (evaluated Spk (now (kernel .entry))) (table .segments) (table .count) memory q ⌝ }
-    ensures told { λ r. ⌜ askedTold r ≡ askedTold (asked tableLimit (evaluated Spk (now (kernel .entry))) (table .segments) (table .count) memory q) ⌝ }
+    ensures { λ r. ⌜ r ≡ ownedAsked (now (kernel .entry)) table memory q ⌝ }
+    ensures told { λ r. ⌜ askedTold r ≡ askedTold (ownedAsked (now (kernel .entry)) table memory q) ⌝ }
 {
     let t = segments_of(table);
     let n = count_of(table);
@@ -123,8 +119,8 @@ pub fn state_in(
     wanted: Wanted,
     rot: [[f64; 3]; 3],
 ) -> Asked
-    ensures { λ r. ⌜ r ≡ askedIn tableLimit (evaluated Spk (now (kernel .entry))) (table .segments) (table .count) memory q wanted rot ⌝ }
-    ensures told { λ r. ⌜ askedTold r ≡ askedTold (askedIn tableLimit (evaluated Spk (now (kernel .entry))) (table .segments) (table .count) memory q wanted rot) ⌝ }
+    ensures { λ r. ⌜ r ≡ ownedAskedIn (now (kernel .entry)) table memory q wanted rot ⌝ }
+    ensures told { λ r. ⌜ askedTold r ≡ askedTold (ownedAskedIn (now (kernel .entry)) table memory q wanted rot) ⌝ }
 {
     let t = segments_of(table);
     let n = count_of(table);
@@ -133,8 +129,8 @@ pub fn state_in(
 
 // A segment evaluated alone by its number, covering or not.
 pub fn alone(kernel: &[u8], table: Table, number: usize, et: f64) -> Answer
-    ensures { λ r. ⌜ r ≡ aloneAnswer tableLimit (evaluated Spk (now (kernel .entry))) (table .segments) (table .count) number et ⌝ }
-    ensures told { λ r. ⌜ answerTold r ≡ answerTold (aloneAnswer tableLimit (evaluated Spk (now (kernel .entry))) (table .segments) (table .count) number et) ⌝ }
+    ensures { λ r. ⌜ r ≡ ownedAlone (now (kernel .entry)) table number et ⌝ }
+    ensures told { λ r. ⌜ answerTold r ≡ answerTold (ownedAlone (now (kernel .entry)) table number et) ⌝ }
 {
     let t = segments_of(table);
     let n = count_of(table);
@@ -143,8 +139,8 @@ pub fn alone(kernel: &[u8], table: Table, number: usize, et: f64) -> Answer
 
 // The orientation of a body frame.
 pub fn orient(kernel: &[u8], table: Table, q: pck::Question) -> pck::Oriented
-    ensures { λ r. ⌜ r ≡ oriented tableLimit (now (kernel .entry)) (table .segments) (table .count) q ⌝ }
-    ensures told { λ r. ⌜ orientedTold r ≡ orientedTold (oriented tableLimit (now (kernel .entry)) (table .segments) (table .count) q) ⌝ }
+    ensures { λ r. ⌜ r ≡ ownedOriented (now (kernel .entry)) table q ⌝ }
+    ensures told { λ r. ⌜ orientedTold r ≡ orientedTold (ownedOriented (now (kernel .entry)) table q) ⌝ }
 {
     let t = segments_of(table);
     let n = count_of(table);
@@ -153,8 +149,8 @@ pub fn orient(kernel: &[u8], table: Table, q: pck::Question) -> pck::Oriented
 
 // A segment of a PCK evaluated alone by its number, covering or not.
 pub fn orient_alone(kernel: &[u8], table: Table, number: usize, et: f64) -> pck::Oriented
-    ensures { λ r. ⌜ r ≡ aloneOriented tableLimit (now (kernel .entry)) (table .segments) (table .count) number et ⌝ }
-    ensures told { λ r. ⌜ orientedTold r ≡ orientedTold (aloneOriented tableLimit (now (kernel .entry)) (table .segments) (table .count) number et) ⌝ }
+    ensures { λ r. ⌜ r ≡ ownedAloneOriented (now (kernel .entry)) table number et ⌝ }
+    ensures told { λ r. ⌜ orientedTold r ≡ orientedTold (ownedAloneOriented (now (kernel .entry)) table number et) ⌝ }
 {
     let t = segments_of(table);
     let n = count_of(table);

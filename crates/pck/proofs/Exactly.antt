@@ -101,7 +101,7 @@ module _ (limit : ℕ) (k : List ℕ) (segs : List Segment) (n : ℕ) (q : Quest
   given-why : (r : Refusal) → Why r → RefusedBy limit k segs n q r
   given-why r w = ap (λ (a : Oriented). a .outcome) (refused-whole r w) ∙ outcome-refused r
 
-  -- what a choice comes to, past the first two tests
+  -- what a choice results in, past the first two tests
   by-choice : (r : Refusal) → Past limit n q → (c : Choice) → chosen segs n q ≡ c → orientedBy k segs q c .outcome ≡ Refused r → Why r
   by-choice r p Nothing e h = none (q .body) (record { past = p; none = chosen-none (hits q) segs n e; body = refl }) (one-refusal (noCoverage q) r h)
   by-choice r p (At i) e h =

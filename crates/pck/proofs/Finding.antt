@@ -22,7 +22,7 @@ use Rattle.pck.specs.declared.Question.{Question}
 use Rattle.pck.specs.declared.Oriented.{Oriented}
 use Rattle.pck.specs.Orienting.{refusedOriented, settled, noCoverage, orientedBy, oriented}
 use Rattle.table.specs.Steps.{segOr, placeIn, Within}
-use Rattle.pck.specs.Finding.{bodyHits, isEarly, earlyOriented, turnedBy, orientedWith}
+use Rattle.pck.specs.Steps.{bodyHits, isEarly, earlyOriented, turnedBy, orientedWith}
 use Rattle.table.proofs.Choices.{or-at, within-chosen}
 
 module _ (segs : List Segment) (q : Question) where

@@ -1,4 +1,4 @@
--- A segment of a PCK evaluated alone, covering or not: document 01, "Evaluating a segment"; and when it is refused. Assumes nothing: these are
+-- A segment of a PCK evaluated alone, covering or not: RULES, "Evaluating a segment"; and when it is refused. Assumes nothing: these are
 -- definitions.
 use Prim.Native.Nat.{ℕ, _≤_, _<_}
 use mathlib.Core.Path.{_≡_}

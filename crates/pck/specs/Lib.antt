@@ -1,6 +1,7 @@
 -- The definitions that the contracts of `pck` cite, and what is proved beyond them.
 pub mod Alone
-pub mod Finding
+pub mod Answering
+pub mod Steps
 pub mod Orienting
 pub mod When
-pub mod Paper
+pub mod Told

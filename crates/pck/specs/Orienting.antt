@@ -1,4 +1,4 @@
--- A question to a PCK: document 01, "Questions". Assumes nothing: these are definitions.
+-- A question to a PCK: RULES, "Questions to a PCK". Assumes nothing: these are definitions.
 -- Everything is over the kernel's bytes, the list of segments, their count and the table's limit.
 use Prim.Native.Nat.{ℕ}
 use mathlib.Core.Bool.{Bool, cond, _&&_}
@@ -59,7 +59,7 @@ chosen segs n q = lastIn (hits q) segs n
 abbrev pub noCoverage : Question → Refusal
 noCoverage q = NoCoverage (q .body)
 
--- What a choice comes to.
+-- What a choice results in.
 abbrev pub orientedBy : List ℕ → List Segment → Question → Choice → Oriented
 orientedBy k segs q (At i) = settled (seg segs i) (evaluated Pck k (seg segs i) i (q .et))
 orientedBy k segs q Nothing = refusedOriented (noCoverage q)

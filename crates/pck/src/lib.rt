@@ -6,7 +6,7 @@ ghost use Rattle.segment.specs.Evaluating.{evaluated};
 ghost use Rattle.table.specs.Places.{lentLimit, limitOf};
 ghost use Rattle.table.specs.Choosing.{orElse};
 ghost use Rattle.pck.specs.Orienting.{orientedOf, refusedOriented, settled, isBody, hits, noCoverage};
-ghost use Rattle.pck.specs.Finding.{bodyAt, isEarly, earlyOriented};
+ghost use Rattle.pck.specs.Steps.{bodyAt, isEarly, earlyOriented};
 ghost use Rattle.pck.specs.Alone.{aloneWith};
 use daf::Family;
 use frame::State;

@@ -1,4 +1,4 @@
--- Answers in the paper's numbers: what is one is told alike, and number with detail tell which refusal it is. Assumes nothing.
+-- Answers in the numbers of RULES, "Refusals": what is one is told alike, and number with detail tell which refusal it is. Assumes nothing.
 use Prim.Native.Nat.{ℕ, zero, suc}
 use mathlib.Core.Path.{_≡_, refl, sym, ap, _∙_}
 use mathlib.Core.Bool.{false}
@@ -8,14 +8,14 @@ use lib.IntN.{ℤ, natAbs}
 use Rattle.refusal.specs.declared.Refusal.{Refusal}
 use Rattle.refusal.specs.declared.Refusal.the-variants.{KernelLength, NotDaf, NotLittleEndian, OtherSummaries, RecordPastEnd, RecordTwice, CountOver25, TooManySummaries, Malformed, EpochNan, NoCoverage, Unsupported, ZeroRadius, TableUnfit, NotFinite, EmptyWindow, NoSegment, InputTooLong, BadRecord, TooManySuppliers}
 use Rattle.refusal.specs.Numbers.{numberOf}
-use Rattle.refusal.specs.Paper.{Paper, refusedBy}
+use Rattle.refusal.specs.Told.{Numbered, refusedBy}
 
-pub in-numbers : {A B : Type 0} (paper : A → B) {x y : A} → x ≡ y → (x ≡ y) × (paper x ≡ paper y)
-in-numbers paper e = (e, ap paper e)
+pub in-numbers : {A B : Type 0} (told : A → B) {x y : A} → x ≡ y → (x ≡ y) × (told x ≡ told y)
+in-numbers told e = (e, ap told e)
 
 -- two things are one if they are told alike and each can be told back
-pub told-back : {A B : Type 0} (paper : A → B) (back : B → A) → ((x : A) → back (paper x) ≡ x) → (x y : A) → paper x ≡ paper y → x ≡ y
-told-back paper back same x y e = sym (same x) ∙ ap back e ∙ same y
+pub told-back : {A B : Type 0} (told : A → B) (back : B → A) → ((x : A) → back (told x) ≡ x) → (x y : A) → told x ≡ told y → x ≡ y
+told-back told back same x y e = sym (same x) ∙ ap back e ∙ same y
 
 -- the refusals of a detail, in order of number from 1 on
 abbrev refusals : ℤ → List Refusal
@@ -30,7 +30,7 @@ numbered (r ∷ rs) (suc zero) = r
 numbered (r ∷ rs) (suc (suc n)) = numbered rs (suc n)
 
 -- the refusal of a number and a detail
-abbrev pub refusalOf : Paper → Refusal
+abbrev pub refusalOf : Numbered → Refusal
 refusalOf p = numbered (refusals (p .detail)) (p .number)
 
 pub refusal-of : (r : Refusal) → refusalOf (refusedBy r) ≡ r

@@ -1,4 +1,4 @@
--- The paper's number and detail of each refusal.
+-- The number and detail of each refusal: RULES, "Refusals".
 use Prim.Native.Nat.{ℕ}
 use lib.IntN.{ℤ, pos}
 use Rattle.refusal.specs.declared.Refusal.{Refusal}

@@ -1,4 +1,4 @@
-// The refusals of the paper, a case for each number, with what its detail is made of.
+// The refusals of RULES, "Refusals", a case for each number, with what its detail is made of.
 ghost use mathlib.Core.Path.{_≡_};
 ghost use Rattle.refusal.specs.Numbers.{numberOf, detailOf};
 
@@ -13,7 +13,7 @@ pub enum Refusal {
     OtherSummaries,
     // 5: a summary record, or the name record after it, ends past the kernel
     RecordPastEnd,
-    // 6: the walk comes to a record a second time
+    // 6: the walk reaches a record a second time
     RecordTwice,
     // 7: a summary count over 25
     CountOver25,
@@ -46,7 +46,7 @@ pub enum Refusal {
 }
 
 impl Refusal {
-    // The number of the paper's table.
+    // The number of the table in RULES, "Refusals".
     pub fn number(self) -> u32
         ensures { λ r. ⌜ r ≡ numberOf self ⌝ }
     {
@@ -74,7 +74,7 @@ impl Refusal {
         }
     }
 
-    // The detail of the paper's table: a segment's number, a body, a type, or 0.
+    // The detail of that table: a segment's number, a body, a type, or 0.
     pub fn detail(self) -> i64
         ensures { λ r. ⌜ r ≡ detailOf self ⌝ }
     {

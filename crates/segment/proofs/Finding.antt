@@ -1,4 +1,4 @@
--- What the tests of refusal 9 come to, one law for each way through them. Assumes nothing.
+-- What the tests of refusal 9 result in, one law for each way through them. Assumes nothing.
 use Prim.Native.Nat.{ℕ}
 use mathlib.Core.Path.{_≡_, refl, ap}
 use mathlib.Core.Bool.{Bool, true, false, cond, true≢false}

@@ -17,7 +17,8 @@ use Rattle.daf.specs.declared.Family.{Family}
 use Rattle.interp.specs.Window.{windowSize}
 use Rattle.segment.specs.Kinds.{formOf, handled, trailerAt, kindWith, kindOf, sameKind}
 use Rattle.segment.specs.Malformed.{limitNan, misplaced, lengthOf, trailerSize, badSize, badInterval, overruns, badRecords, badLength, badStates, badTrailer, badData, malformed, malformedIn, kindIn, found}
-use Rattle.segment.specs.Evaluating.{unsupported, unfit, evaluated, valued, Records, States, Sound}
+use Rattle.segment.specs.Evaluating.{unsupported, unfit, evaluated}
+use Rattle.segment.specs.Steps.{valued, Records, States, Sound}
 use Rattle.segment.specs.declared.Form.{Form}
 use Rattle.segment.specs.declared.Form.the-variants.{Other, Two, Three, Nine, Thirteen}
 use Rattle.segment.specs.declared.Kind.{Kind}
@@ -56,7 +57,7 @@ module _ (f : Family) (k : List ℕ) (s : Segment) where
 doubles-within : (k : List ℕ) (e : ℕ) → e ≤ wholeDoubles k → 8 * e ≤ length k
 doubles-within k e h = let g = mul-div-le (length k) 8 in omega arith
 
--- of records: there is one, and the trailer follows behind the last
+-- of records: there is one, and the trailer follows after the last
 pub records-fit : (series : ℕ) (t : Trailer) (len : ℕ) → badRecords series t len ≡ false → (1 ≤ t .count) × (t .count * t .size + 4 ≤ len)
 records-fit series t len h =
     let over = or-second (badSize series (t .size) || badInterval (t .init) (t .intlen)) (overruns (t .size) (t .count) len) h in (

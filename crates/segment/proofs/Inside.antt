@@ -21,7 +21,7 @@ use Rattle.segment.specs.declared.Segment.{Segment}
 use Rattle.segment.proofs.Valued.{record-below, record-ends}
 use Rattle.segment.proofs.Fit.{records-fit, states-fit, own-kind, passed-tests}
 
--- The record for et starts at byte p, at the segment's first double or behind it, and ends before the trailer of four doubles.
+-- The record for et starts at byte p, at the segment's first double or after it, and ends before the trailer of four doubles.
 pub record RecordInside (a e p rsize : ℕ) : Type 0 where
   pub starts : byteOf a ≤ p
   pub ends : p + 8 * rsize ≤ byteOf (e - 3)

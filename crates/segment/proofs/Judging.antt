@@ -1,4 +1,4 @@
--- What a summary comes to, by what the tests of its segment find. Assumes nothing.
+-- What a summary results in, by what the tests of its segment find. Assumes nothing.
 use Prim.Native.Nat.{ℕ}
 use mathlib.Core.Path.{_≡_, refl, ap}
 use mathlib.Core.Bool.{Bool, true, false, cond}

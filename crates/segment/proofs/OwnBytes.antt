@@ -19,7 +19,8 @@ use Rattle.cheby.proofs.Own.{type2-own, type3-own}
 use Rattle.interp.proofs.Own.{alike-whole, type9-own, type13-own}
 use Rattle.segment.specs.Kinds.{formOf, handled, trailerAt, kindOf}
 use Rattle.segment.specs.Malformed.{limitNan, misplaced, lengthOf, trailerSize, coefficients, malformed}
-use Rattle.segment.specs.Evaluating.{unsupported, unfit, recordByte, zeroRadius, stateIn, stateAt, evaluated, Sound}
+use Rattle.segment.specs.Evaluating.{unsupported, unfit, recordByte, zeroRadius, stateIn, stateAt, evaluated}
+use Rattle.segment.specs.Steps.{Sound}
 use Rattle.segment.specs.declared.Form.{Form}
 use Rattle.segment.specs.declared.Form.the-variants.{Other, Two, Three, Nine, Thirteen}
 use Rattle.segment.specs.declared.Kind.{Kind}
@@ -74,7 +75,7 @@ module _ (f : Family) (k k′ : List ℕ) (s : Segment) (g : Agrees k k′ (natA
 -- ---- the record and the states
 
 module _ (k k′ : List ℕ) (a e : ℕ) (from : 1 ≤ a) (g : Agrees k k′ a e) where
-  -- a double that starts at a whole number of doubles behind the first
+  -- a double that starts at a whole number of doubles after the first
   at-double : (p j : ℕ) → p ≡ byteOf a + 8 * j → a + j ≤ e → doubleAt k p ≡ doubleAt k′ p
   at-double p j q h =
       let there : p ≡ byteOf (a + j) = omega arith in

@@ -1,4 +1,4 @@
--- A segment that plainly fits: what the quick tests leave shows that none of the tests fails, and so what evaluating it comes to. Assumes nothing.
+-- A segment that plainly fits: what the quick tests leave shows that none of the tests fails, and so what evaluating it results in. Assumes nothing.
 use Prim.Native.Nat.{ℕ, _+_, _*_, _^_, _≤_, _<_}
 use mathlib.Core.Path.{_≡_, refl, sym, ap, _∙_, subst}
 use mathlib.Core.Bool.{true, false, false≢true}
@@ -12,7 +12,8 @@ use Rattle.daf.specs.Addresses.{wholeDoubles}
 use Rattle.daf.specs.declared.Family.{Family}
 use Rattle.segment.specs.Kinds.{formOf, handled, recordsAt, trailerAt, kindWith, kindOf, sameKind}
 use Rattle.segment.specs.Malformed.{limitNan, lengthOf, trailerSize, badSize, badInterval, overruns, badRecords, badTrailer, malformed, malformedIn, kindIn}
-use Rattle.segment.specs.Evaluating.{unsupported, unfit, evaluated, valued, Records, Sound, Plain}
+use Rattle.segment.specs.Evaluating.{unsupported, unfit, evaluated}
+use Rattle.segment.specs.Steps.{valued, Records, Sound, Plain}
 use Rattle.segment.specs.declared.Form.{Form}
 use Rattle.segment.specs.declared.Form.the-variants.{Two, Three}
 use Rattle.segment.specs.declared.Kind.{Kind}
@@ -89,7 +90,7 @@ pub record Fitting (f : Family) (k : List ℕ) (s : Segment) (form : Form) (seri
   pub records : Records series k (natAbs (s .start)) t
   pub short : t .size < 2 ^ 31
   pub few : t .count < 2 ^ 31
-  -- behind refusals 12 and 14
+  -- after refusals 12 and 14
   pub behind : (a i : ℕ) (et : Float) → a ≡ natAbs (s .start) → valued k a (kindWith form t) i et ≡ evaluated f k s i et
 
 module _ (f : Family) (k : List ℕ) (s : Segment) (t : Trailer) where

@@ -19,7 +19,8 @@ use Rattle.daf.specs.declared.Summary.{Summary}
 use Rattle.interp.specs.Window.{windowSize}
 use Rattle.interp.proofs.Window.{size-some}
 use Rattle.segment.specs.Malformed.{malformed, segmentOf, judged}
-use Rattle.segment.specs.Evaluating.{unsupported, unfit, zeroRadius, emptyWindow, stateAt, cases, evaluated, Sound}
+use Rattle.segment.specs.Evaluating.{unsupported, unfit, zeroRadius, emptyWindow, stateAt, cases, evaluated}
+use Rattle.segment.specs.Steps.{Sound}
 use Rattle.segment.specs.declared.Kind.{Kind}
 use Rattle.segment.specs.declared.Kind.the-variants.{Unsupported, Type2, Type3, Type9, Type13}
 use Rattle.segment.specs.declared.Segment.{Segment}
@@ -63,7 +64,7 @@ module _ (f : Family) (k : List ℕ) (s : Segment) (i : ℕ) (et : Float) where
   unfolding evaluated
   refused-by r e = let g = given-some Refused _ one-refusal (no-refusal _) (cases f k s i et) r e in (g .0, g .2, g .3)
 
-  -- the cases have the paper's numbers, in the order of its section on evaluation
+  -- the cases have the numbers of RULES, "Refusals", in the order of "Evaluating a segment"
   pub numbered : map (λ (c : Case). numberOf (c .gives)) (cases f k s i et) ≡ 12 ∷ 14 ∷ 13 ∷ 16 ∷ []
   numbered = refl
 

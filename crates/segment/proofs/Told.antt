@@ -1,16 +1,16 @@
--- An evaluation is told whole in the paper's numbers: two that are told alike are one. Assumes nothing.
+-- An evaluation is told whole in the numbers of RULES, "Refusals": two that are told alike are one. Assumes nothing.
 use mathlib.Core.Path.{_≡_, refl, ap, _∙_}
 use mathlib.Core.Bool.{Bool, cond}
 use lib.Dec.{eqb}
 use Rattle.frame.specs.State.{zeroState}
-use Rattle.refusal.specs.Paper.{refusedBy}
+use Rattle.refusal.specs.Told.{refusedBy}
 use Rattle.refusal.proofs.Told.{told-back, refusalOf, refusal-of, not-0}
 use Rattle.segment.specs.declared.Evaluated.{Evaluated}
 use Rattle.segment.specs.declared.Evaluated.the-variants.{State, Refused}
-use Rattle.segment.specs.Paper.{Told, evaluatedTold}
+use Rattle.segment.specs.Told.{Told, evaluatedTold}
 
 abbrev evaluatedOf : Told → Evaluated
-evaluatedOf t = cond (eqb (t .paper .number) 0) (State (t .six)) (Refused (refusalOf (t .paper)))
+evaluatedOf t = cond (eqb (t .numbered .number) 0) (State (t .six)) (Refused (refusalOf (t .numbered)))
 
 evaluated-of : (e : Evaluated) → evaluatedOf (evaluatedTold e) ≡ e
 evaluated-of (State s) = refl

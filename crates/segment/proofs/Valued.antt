@@ -1,4 +1,4 @@
--- A segment at et behind refusals 12 and 14, one law for each way. Assumes nothing.
+-- A segment at et after refusals 12 and 14, one law for each way. Assumes nothing.
 use Prim.Native.Nat.{ℕ, _+_, _*_, _≤_, _<_}
 use mathlib.Core.Path.{_≡_, refl, sym, ap}
 use mathlib.Core.Bool.{Bool, true, false}
@@ -16,7 +16,8 @@ use Rattle.cheby.specs.Cheby.{recordFor, unlessZero, record2, type2Of, type3Of}
 use Rattle.interp.specs.Window.{windowSize}
 use Rattle.interp.specs.Discrete.{type9Of, type13Of}
 use Rattle.segment.specs.Malformed.{coefficients}
-use Rattle.segment.specs.Evaluating.{recordByte, radiusZero, zeroRadius, emptyWindow, stateIn, stateAt, valued}
+use Rattle.segment.specs.Evaluating.{recordByte, radiusZero, zeroRadius, emptyWindow, stateIn, stateAt}
+use Rattle.segment.specs.Steps.{valued}
 use Rattle.segment.specs.declared.Kind.the-variants.{Type2, Type3, Type9, Type13}
 use Rattle.segment.specs.declared.Evaluated.the-variants.{State as Answer, Refused}
 

@@ -1,11 +1,9 @@
 -- The evaluation of one segment of a table, forged or not, on the kernel lent now.
-use Prim.Native.Nat.{ℕ, _+_, _*_, _^_, _≤_, _<_}
-use mathlib.Core.Path.{_≡_}
+use Prim.Native.Nat.{ℕ, _+_, _*_}
 use mathlib.Core.Bool.{Bool, true, false, not, _||_}
 use mathlib.Core.List.{List, [], _∷_}
 use lib.Dec.{eqb}
 use lib.IntN.{natAbs}
-use lib.ListN.{length}
 use lib.Ieee.{Float, eq}
 use Rattle.bits.specs.F64.{+0}
 use Rattle.bits.specs.Bytes.{doubleAt}
@@ -13,18 +11,17 @@ use Rattle.refusal.specs.declared.Refusal.the-variants.{Unsupported as TypeUnsu
 use Rattle.refusal.specs.Order.{Case, case, firstOf}
 use Rattle.frame.specs.declared.State.{State}
 use Rattle.frame.specs.State.{zeroState}
-use Rattle.daf.specs.Addresses.{byteOf, wholeDoubles}
+use Rattle.daf.specs.Addresses.{byteOf}
 use Rattle.daf.specs.declared.Family.{Family}
 use Rattle.cheby.specs.declared.Cheby.{Cheby}
 use Rattle.cheby.specs.declared.Cheby.the-variants.{Value, NoRadius}
 use Rattle.cheby.specs.Cheby.{recordFor, type2Of, type3Of}
 use Rattle.interp.specs.Window.{windowSize}
 use Rattle.interp.specs.Discrete.{type9Of, type13Of}
-use Rattle.segment.specs.Kinds.{sameKind, recordsAt}
-use Rattle.segment.specs.Malformed.{limitNan, misplaced, lengthOf, coefficients, badRecords, malformedIn, kindIn}
+use Rattle.segment.specs.Kinds.{sameKind}
+use Rattle.segment.specs.Malformed.{coefficients, malformedIn, kindIn}
 use Rattle.segment.specs.declared.Kind.{Kind}
 use Rattle.segment.specs.declared.Kind.the-variants.{Unsupported, Type2, Type3, Type9, Type13}
-use Rattle.segment.specs.declared.Trailer.{Trailer}
 use Rattle.segment.specs.declared.Segment.{Segment}
 use Rattle.segment.specs.declared.Evaluated.{Evaluated}
 use Rattle.segment.specs.declared.Evaluated.the-variants.{State as Answer, Refused}
@@ -91,40 +88,3 @@ cases f k s i et =
 -- The evaluation at et of segment number i.
 unfoldable pub evaluated : Family → List ℕ → Segment → ℕ → Float → Evaluated
 evaluated f k s i et = firstOf (cases f k s i et) Refused (Answer (stateAt k (natAbs (s .start)) (s .kind) et))
-
--- ---- what the small functions of the code do
-
--- Behind refusals 12 and 14.
-unfoldable pub valued : List ℕ → ℕ → Kind → ℕ → Float → Evaluated
-valued k a kind i et = firstOf (valueCases k a kind i et) Refused (Answer (stateAt k a kind et))
-
--- What the tests leave of a trailer of so many series, in a segment whose first address is a: N records lie in the kernel from there on.
-pub record Records (series : ℕ) (k : List ℕ) (a : ℕ) (t : Trailer) : Type 0 where
-  pub from : 1 ≤ a
-  pub some : 1 ≤ t .count
-  pub size : t .size ≡ 2 + series * coefficients series (t .size)
-  pub within : byteOf a + 8 * (t .count * t .size) ≤ length k
-
--- The same of N states and their epochs, with a window of 32 at most.
-pub record States (k : List ℕ) (a d n : ℕ) : Type 0 where
-  pub from : 1 ≤ a
-  pub some : 1 ≤ n
-  pub window : windowSize d n ≤ 32
-  pub within : byteOf a + 56 * n ≤ length k
-
--- By the kind.
-abbrev pub Sound : List ℕ → ℕ → Kind → Type 0
-Sound k a Unsupported = ⊥
-Sound k a (Type2 init intlen rsize n) = Records 3 k a (record { init = init; intlen = intlen; size = rsize; count = n })
-Sound k a (Type3 init intlen rsize n) = Records 6 k a (record { init = init; intlen = intlen; size = rsize; count = n })
-Sound k a (Type9 d n) = States k a d n
-Sound k a (Type13 d n) = States k a d n
-
--- What the quick tests leave of a segment with a trailer of so many series: no test fails, the trailer on this kernel is t, and its whole numbers are small.
-pub record Plain (series : ℕ) (k : List ℕ) (s : Segment) (t : Trailer) : Type 0 where
-  pub limits : limitNan (s .first) (s .last) ≡ false
-  pub places : misplaced (wholeDoubles k) (s .start) (s .end) ≡ false
-  pub numbers : badRecords series t (lengthOf (natAbs (s .start)) (natAbs (s .end))) ≡ false
-  pub words : recordsAt k (natAbs (s .end)) ≡ t
-  pub short : t .size < 2 ^ 31
-  pub few : t .count < 2 ^ 31

@@ -1,4 +1,4 @@
--- Worked cases of document 01, closed by computation: the numbers of a trailer, addresses, and a table that was forged.
+-- Worked cases (RULES, "Worked numbers"), closed by computation: the numbers of a trailer, addresses, and a table that was forged.
 use Prim.Native.Nat.{ℕ, _^_}
 use mathlib.Core.Path.{_≡_, refl}
 use mathlib.Core.Bool.{Bool, true, false}

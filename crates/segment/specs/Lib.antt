@@ -3,4 +3,5 @@ pub mod Kinds
 pub mod Malformed
 pub mod Evaluating
 pub mod Examples
-pub mod Paper
+pub mod Told
+pub mod Steps

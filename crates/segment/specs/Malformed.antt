@@ -1,4 +1,4 @@
--- Refusal 9: the tests of a segment over the kernel's bytes, in document 01's order. Whole numbers are mathematical: nothing wraps.
+-- Refusal 9: the tests of a segment over the kernel's bytes, in the order of RULES, "Opening". Whole numbers are mathematical: nothing wraps.
 use Prim.Native.Nat.{ℕ, _+_, _-_, _*_, _/_}
 use mathlib.Core.Bool.{Bool, false, cond, not, _&&_, _||_}
 use mathlib.Core.List.{List}
@@ -58,7 +58,7 @@ badInterval init intlen = not (lt +0 intlen) || not (finite init) || not (finite
 abbrev pub overruns : ℕ → ℕ → ℕ → Bool
 overruns rsize n len = eqb n 0 || ltb len (n * rsize + 4)
 
--- Types 2 and 3, behind the test for fewer than 4 doubles.
+-- Types 2 and 3, after the test for fewer than 4 doubles.
 abbrev pub badRecords : ℕ → Trailer → ℕ → Bool
 badRecords series t len = badSize series (t .size) || badInterval (t .init) (t .intlen) || overruns (t .size) (t .count) len
 
@@ -66,7 +66,7 @@ badRecords series t len = badSize series (t .size) || badInterval (t .init) (t .
 abbrev pub badLength : ℕ → ℕ → Bool
 badLength n len = eqb n 0 || not (eqb len (7 * n + n / 100 + 2))
 
--- Types 9 and 13, behind the test for fewer than 2 doubles: their degree is at least 0 and 1.
+-- Types 9 and 13, after the test for fewer than 2 doubles: their degree is at least 0 and 1.
 abbrev pub badStates : ℕ → Trailer → ℕ → Bool
 badStates least t len = badLength (t .count) len || ltb (t .size) least || ltb 32 (windowSize (t .size) (t .count))
 
@@ -120,7 +120,7 @@ segmentWith s kind =
 abbrev pub segmentOf : Family → List ℕ → Summary → Segment
 segmentOf f k s = segmentWith s (kindOf f k (s .«data_type») (s .end))
 
--- What a summary comes to at the opening.
+-- What a summary results in at the opening.
 unfoldable pub judged : Family → List ℕ → Summary → Judged
 judged f k s =
     cond (malformed f k (s .first) (s .last) (s .«data_type») (s .start) (s .end)) Malformed (Accepted (segmentOf f k s))

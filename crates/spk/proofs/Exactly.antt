@@ -159,7 +159,7 @@ way-open ev segs n q Nothing = go (lastReversed segs n q)
     go Nothing = refl
 
 module _ (limit : ℕ) (ev : Evaluation) (segs : List Segment) (n : ℕ) (m : Memory) (q : Question) where
-  -- ---- what a question comes to before 15
+  -- ---- what a question results in before 15
   abbrev found : Found
   found = foundBy ev segs n q (forwardIn segs n m q)
 

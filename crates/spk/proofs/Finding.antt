@@ -34,7 +34,7 @@ use Rattle.spk.specs.Choosing.{recall, lastForward, lastReversed, forwar
 use Rattle.spk.specs.Answers.{refusedAnswer, sameAnswer, settled, negatedOf, lessOf, differenceOf}
 use Rattle.spk.specs.Asking.{legFrom, chained, backward, foundBy, answerTo, asked}
 use Rattle.spk.proofs.Order.{asked-same, asked-unfit, asked-nan, asked-by}
-use Rattle.spk.specs.Finding.{placeKept, recalledBy, isFailed, isEarly, earlyAnswer, aloneWith}
+use Rattle.spk.specs.Steps.{placeKept, recalledBy, isFailed, isEarly, earlyAnswer, aloneWith}
 use Rattle.spk.specs.Alone.{aloneAnswer}
 use Rattle.spk.proofs.Single.{alone-unfit, alone-nan, alone-none, alone-some}
 use Rattle.table.proofs.Limits.{counted-all}
@@ -214,8 +214,8 @@ module _ (limit : ℕ) (ev : Evaluation) (segs : List Segment) (n : ℕ) (m : Me
   asked-back e l = late e Nothing (no-place n (forwardIn segs n m q) (forward-within segs n m q) l)
 
 -- ---- the ways of the code
-pub unchanged-as : {r : Asked} {x y : Answer} {m : Memory} → r ≡ record { answer = x; memory = m } → x ≡ y → r ≡ record { answer = y; memory = m }
-unchanged-as {m = m} e f = e ∙ ap (λ (z : Answer). record { answer = z; memory = m }) f
+pub with-memory-as : {r : Asked} {x y : Answer} {m : Memory} → r ≡ record { answer = x; memory = m } → x ≡ y → r ≡ record { answer = y; memory = m }
+with-memory-as {m = m} e f = e ∙ ap (λ (z : Answer). record { answer = z; memory = m }) f
 
 pub difference-refused : (a b : Evaluated) (r : Refusal) → a ≡ evaluation.Refused r → evaluation.Refused r ≡ differenceOf a b
 unfolding differenceOf

@@ -5,7 +5,7 @@
 --     single-10, single-own, single-14, single-15, single-17    the same of `alone`
 --     state-other, framed-other, single-other   no other number is given
 --     state-zeros, framed-zeros, single-zeros   with a refusal stand six zeros and no segment
---     bytes-replied                             what a question of any kind comes to is the same over every kernel that holds the same
+--     bytes-replied                             what a question of any kind results in is the same over every kernel that holds the same
 --                                               doubles of the segments that it evaluates: no other supplier's numbers flow into it
 --     bytes-forward, bytes-reversed, bytes-alone  the same of an answer that names a segment, by that segment's doubles
 -- Assumes nothing.

@@ -1,8 +1,8 @@
--- An answer is told whole in the paper's numbers and words: two that are told alike are one, and so is what is remembered. Assumes nothing.
+-- An answer is told whole in the numbers and words of RULES: two that are told alike are one, and so is what is remembered. Assumes nothing.
 use Prim.Native.Nat.{ℕ}
 use mathlib.Core.Path.{_≡_, refl, ap, ap₂}
 use mathlib.Core.List.{List, [], _∷_}
-use Rattle.refusal.specs.Paper.{Paper}
+use Rattle.refusal.specs.Told.{Numbered}
 use Rattle.refusal.proofs.Told.{told-back, refusalOf, refusal-of}
 use Rattle.spk.specs.declared.Memory.{Memory}
 use Rattle.spk.specs.declared.Memory.the-variants.{Blank, Kept}
@@ -11,13 +11,13 @@ use Rattle.spk.specs.declared.Way.the-variants.{Same, Forward, Reversed,
 use Rattle.spk.specs.declared.Answer.{Answer}
 use Rattle.spk.specs.declared.Asked.{Asked}
 use Rattle.spk.specs.Answers.{answerOf}
-use Rattle.spk.specs.Paper.{Word, same, forward, reversed, chained, refused, ToldWay, wayTold, Told, answerTold, ToldAfter, memoryTold, askedTold}
+use Rattle.spk.specs.Told.{Word, same, forward, reversed, chained, refused, ToldWay, wayTold, Told, answerTold, ToldAfter, memoryTold, askedTold}
 
 abbrev first : List ℕ → ℕ
 first [] = 0
 first (i ∷ is) = i
 
-abbrev by-word : Word → Paper → List ℕ → Way
+abbrev by-word : Word → Numbered → List ℕ → Way
 by-word same p is = Same
 by-word forward p is = Forward (first is)
 by-word reversed p is = Reversed (first is)
@@ -25,7 +25,7 @@ by-word chained p is = Chained
 by-word refused p is = Refused (refusalOf p)
 
 abbrev wayOf : ToldWay → Way
-wayOf t = by-word (t .word) (t .paper) (t .segments)
+wayOf t = by-word (t .word) (t .numbered) (t .segments)
 
 way-of : (w : Way) → wayOf (wayTold w) ≡ w
 way-of Same = refl

@@ -15,7 +15,7 @@ use Rattle.spk.proofs.Answer.turned as m-answer-turned
 use Rattle.spk.proofs.forward as m-forward
 use Rattle.spk.proofs.reversed as m-reversed
 use Rattle.spk.proofs.by_chain as m-by-chain
-use Rattle.spk.proofs.unchanged as m-unchanged
+use Rattle.spk.proofs.with_memory as m-with-memory
 use Rattle.spk.proofs.or_hit as m-or-hit
 use Rattle.spk.proofs.place_kept as m-place-kept
 use Rattle.spk.proofs.recalled as m-recalled
@@ -46,8 +46,8 @@ module _ {M : Type 1} (𝓤 : URA M) (H : Heap 𝓤) (A : Atoms 𝓤) (mem : Mem
   pub two-by-chain : Determined 𝓤 m-by-chain.ended (m-by-chain.clauses 𝓤 H A mem run)
   two-by-chain κs a g r r' ws ws' = equal 𝓤 refl
 
-  pub two-unchanged : Determined 𝓤 m-unchanged.ended (m-unchanged.clauses 𝓤 H A mem run)
-  two-unchanged κs a g r r' ws ws' = equal 𝓤 refl
+  pub two-with-memory : Determined 𝓤 m-with-memory.ended (m-with-memory.clauses 𝓤 H A mem run)
+  two-with-memory κs a g r r' ws ws' = equal 𝓤 refl
 
   pub two-or-hit : Determined 𝓤 m-or-hit.ended (m-or-hit.clauses 𝓤 H A mem run)
   two-or-hit κs a g r r' ws ws' = equal 𝓤 refl

@@ -1,4 +1,4 @@
--- A segment evaluated alone, covering or not: document 01, "Evaluating a segment". Assumes nothing: these are definitions.
+-- A segment evaluated alone, covering or not: RULES, "Evaluating a segment". Assumes nothing: these are definitions.
 use Prim.Native.Nat.{ℕ}
 use mathlib.Core.List.{List, [], _∷_}
 use lib.Dec.{ltb, leb}

@@ -1,4 +1,4 @@
--- The order of a question: document 01, "Questions". Assumes nothing: these are definitions.
+-- The order of a question: RULES, "Questions to an SPK". Assumes nothing: these are definitions.
 -- Everything is over an evaluation of segments (`evaluated Spk k` for a kernel k), the list of segments, their count and the table's limit.
 use Prim.Native.Nat.{ℕ}
 use mathlib.Core.Bool.{cond}
@@ -38,7 +38,7 @@ chained ev segs n q = differenceOf (toZero ev segs n (legFrom q)) (toZero ev seg
 abbrev pub evaluatedAt : Evaluation → List Segment → Question → ℕ → Evaluated
 evaluatedAt ev segs q i = ev (seg segs i) i (q .et)
 
--- What a question comes to before 15: by which way, and what was evaluated.
+-- What a question results in before 15: by which way, and what was evaluated.
 pub record Found : Type 0 where
   pub way : Way
   pub result : Evaluated

@@ -1,12 +1,13 @@
 -- The definitions that the contracts of `spk` cite.
 pub mod Alone
 pub mod Answers
+pub mod Answering
 pub mod Asking
 pub mod Choosing
-pub mod Finding
+pub mod Steps
 pub mod Questions
 pub mod Runs
 pub mod Touched
 pub mod Turning
 pub mod When
-pub mod Paper
+pub mod Told

@@ -7,7 +7,7 @@ use Rattle.segment.specs.declared.Segment.{Segment}
 use Rattle.table.specs.declared.Choice.{Choice}
 use Rattle.table.specs.declared.Choice.the-variants.{At, Nothing}
 use Rattle.chain.specs.Step.{Evaluation}
-use Rattle.chain.specs.Walk.{chainLimit, isHome}
+use Rattle.chain.specs.Walk.{chainLimit, isZero}
 use Rattle.chain.specs.Touched.{TouchedOn}
 use Rattle.spk.specs.declared.Question.{Question}
 use Rattle.spk.specs.declared.Memory.{Memory}
@@ -18,11 +18,11 @@ use Rattle.spk.specs.When.{Arrives, Open, Evaluates}
 use Rattle.spk.specs.Runs.{Asking, Plain, InFrame, Single}
 
 module _ (ev : Evaluation) (segs : List Segment) (n : ℕ) (P : ℕ → Type 0) (q : Question) where
-  -- P holds of the number of each segment that the chain evaluates: those of the target's walk and, where that comes to a state, those of the
+  -- P holds of the number of each segment that the chain evaluates: those of the target's walk and, where that ends with a state, those of the
   -- center's. Body 0 takes no step.
   pub record TouchedChain : Type 0 where
-    pub target : isHome (legFrom q) ≡ false → TouchedOn ev segs n P (legFrom q) chainLimit
-    pub center : Arrives ev segs n q → isHome (legFrom (swapped q)) ≡ false → TouchedOn ev segs n P (legFrom (swapped q)) chainLimit
+    pub target : isZero (legFrom q) ≡ false → TouchedOn ev segs n P (legFrom q) chainLimit
+    pub center : Arrives ev segs n q → isZero (legFrom (swapped q)) ≡ false → TouchedOn ev segs n P (legFrom (swapped q)) chainLimit
 
   -- It holds of the reversed choice's; where there is none, of the chain's.
   abbrev pub touchedBack : Choice → Type 0

@@ -1,4 +1,4 @@
--- The frame that a state is asked in: document 01, "Questions". Assumes nothing: these are definitions.
+-- The frame that a state is asked in: RULES, "Questions to an SPK". Assumes nothing: these are definitions.
 use Prim.Native.Nat.{ℕ}
 use mathlib.Core.Bool.{Bool, true, false, cond}
 use mathlib.Core.List.{List}

@@ -22,7 +22,7 @@ use Rattle.table.specs.declared.Choice.the-variants.{At, Nothing}
 use Rattle.table.specs.Segments.{seg}
 use Rattle.chain.specs.declared.Leg.{Leg}
 use Rattle.chain.specs.Step.{Evaluation}
-use Rattle.chain.specs.Walk.{chainLimit, isHome, toZero}
+use Rattle.chain.specs.Walk.{chainLimit, isZero, toZero}
 use Rattle.chain.specs.When.{Stuck, Failed}
 use Rattle.spk.specs.declared.Question.{Question}
 use Rattle.spk.specs.declared.Memory.{Memory}
@@ -42,15 +42,15 @@ is12or13 r = eqb (numberOf r) 12 || eqb (numberOf r) 13
 
 -- ---- the chain
 module _ (ev : Evaluation) (segs : List Segment) (n : ℕ) where
-  -- The walk from a question's target to body 0 comes to a state. Body 0 takes no step.
+  -- The walk from a question's target to body 0 ends with a state. Body 0 takes no step.
   abbrev pub Arrives : Question → Type 0
   Arrives q = (x : State) × (toZero ev segs n (legFrom q) ≡ evaluation.State x)
 
   -- So it is with the walk from a question's target, which is not body 0.
   abbrev pub OfWalk : (Leg → Type 0) → Question → Type 0
-  OfWalk P q = (isHome (legFrom q) ≡ false) × P (legFrom q)
+  OfWalk P q = (isZero (legFrom q) ≡ false) × P (legFrom q)
 
-  -- So it is with the target's walk; or that comes to a state, and so it is with the center's.
+  -- So it is with the target's walk; or that ends with a state, and so it is with the center's.
   abbrev pub InChain : (Leg → Type 0) → Question → Type 0
   InChain P q = OfWalk P q ⊎ (Arrives q × OfWalk P (swapped q))
 
@@ -81,7 +81,7 @@ module _ (limit : ℕ) (ev : Evaluation) (segs : List Segment) (n : ℕ) (m : Me
     reversed : forwardIn segs n m q ≡ Nothing → lastReversed segs n q ≡ At i → evaluatedAt ev segs q i ≡ evaluation.Refused r → Refuses i r
     chained : Chaining → InChain ev segs n (λ leg. Failed ev segs n leg chainLimit i r) q → Refuses i r
 
-  -- The question comes to a state before 15: the forward choice's; or, with all six negated, the reversed one's; or the target's less the center's.
+  -- The question ends with a state before 15: the forward choice's; or, with all six negated, the reversed one's; or the target's less the center's.
   pub data Gives (s : State) : Type 0 where
     by-forward : (i : ℕ) → forwardIn segs n m q ≡ At i → evaluatedAt ev segs q i ≡ evaluation.State s → Gives s
     by-reversed : (i : ℕ) (x : State) → forwardIn segs n m q ≡ Nothing → lastReversed segs n q ≡ At i → evaluatedAt ev segs q i ≡ evaluation.State x → negatedState x ≡ s → Gives s

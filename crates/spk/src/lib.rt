@@ -10,7 +10,7 @@ ghost use Rattle.spk.specs.Choosing.{rememberedAt};
 ghost use Rattle.spk.specs.Answers.{answerOf, refusedAnswer, sameAnswer, settled, negatedOf, lessOf, differenceOf};
 ghost use Rattle.spk.specs.Asking.{legFrom};
 ghost use Rattle.spk.specs.Turning.{frameOf, isRefused, turnedTo, turnedAnswer, turnedAsked};
-ghost use Rattle.spk.specs.Finding.{hitAt, placeKept, recalledBy, isFailed, isEarly, earlyAnswer, aloneWith};
+ghost use Rattle.spk.specs.Steps.{hitAt, placeKept, recalledBy, isFailed, isEarly, earlyAnswer, aloneWith};
 ghost use Rattle.chain.specs.Steps.{begin};
 use chain::Leg;
 use chain::Next;
@@ -129,7 +129,7 @@ impl Memory {
         }
     }
 
-    // What is remembered after segment i was chosen forward: it, if it is marked, whatever evaluating it comes to.
+    // What is remembered after segment i was chosen forward: it, if it is marked, whatever evaluating it results in.
     pub fn after(self, i: usize, s: Segment) -> Memory
         ensures { λ r. ⌜ r ≡ rememberedAt self i s ⌝ }
     {
@@ -279,7 +279,7 @@ pub fn reversed(kernel: &[u8], i: usize, s: Segment, q: Question) -> Answer
     Answer::settled(Way::Reversed(i), negated(e))
 }
 
-// The answer by the chain, of what it came to.
+// The answer by the chain, of what it resulted in.
 pub fn by_chain(e: Evaluated) -> Answer
     ensures { λ r. ⌜ r ≡ settled Way.Chained e ⌝ }
 {
@@ -287,7 +287,7 @@ pub fn by_chain(e: Evaluated) -> Answer
 }
 
 // An answer that leaves the memory.
-pub fn unchanged(answer: Answer, memory: Memory) -> Asked
+pub fn with_memory(answer: Answer, memory: Memory) -> Asked
     ensures { λ r. ⌜ r ≡ record { answer = answer; memory = memory } ⌝ }
 {
     let kept = memory.again();
@@ -342,7 +342,7 @@ pub fn start_of(q: Question) -> Next
     ensures { λ r. ⌜ r ≡ begin (legFrom q) ⌝ }
 {
     let leg = q.leg();
-    if chain::is_home(leg) {
+    if chain::is_zero(leg) {
         let total = leg.total;
         return Next::Ended(Evaluated::State(total));
     }
@@ -393,15 +393,15 @@ pub fn early(places: usize, n: usize, memory: Memory, q: Question) -> Asked
     ensures { λ r. ⌜ r ≡ record { answer = earlyAnswer (limitOf places) n q; memory = memory } ⌝ }
 {
     if q.is_same() {
-        return unchanged(Answer::same(), memory);
+        return with_memory(Answer::same(), memory);
     }
     if Table::LENT < n {
-        return unchanged(Answer::refused(Refusal::TableUnfit), memory);
+        return with_memory(Answer::refused(Refusal::TableUnfit), memory);
     }
     if places < n {
-        return unchanged(Answer::refused(Refusal::TableUnfit), memory);
+        return with_memory(Answer::refused(Refusal::TableUnfit), memory);
     }
-    unchanged(Answer::refused(Refusal::EpochNan), memory)
+    with_memory(Answer::refused(Refusal::EpochNan), memory)
 }
 
 // An answer in the frame that it is asked in. The memory stays.
@@ -410,7 +410,7 @@ pub fn turned(a: Asked, wanted: Wanted, rot: [[f64; 3]; 3]) -> Asked
 {
     let answer = a.answer;
     let kept = a.memory;
-    unchanged(answer.turned(wanted, rot), kept)
+    with_memory(answer.turned(wanted, rot), kept)
 }
 
 // Segment `number`, which is s, by the tests before any evaluation, else evaluated.

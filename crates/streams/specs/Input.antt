@@ -1,4 +1,4 @@
--- What reading into a buffer comes to.
+-- What reading into a buffer results in.
 use Prim.Native.Nat.{ℕ}
 use mathlib.Core.List.{List}
 use Rattle.io.specs.Counts.{Counts}

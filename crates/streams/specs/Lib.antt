@@ -1,3 +1,3 @@
 -- What the contracts of `streams` cite.
 pub mod Input
-pub mod Paper
+pub mod Told

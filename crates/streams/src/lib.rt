@@ -7,20 +7,23 @@ ghost use lib.ListN.{length};
 ghost use Rattle.streams.specs.Input.{Within, inputLimit};
 use refusal::Refusal;
 
-// What reading comes to: how many bytes, or that it failed, which a line on the error output then says.
+// What reading results in: how many bytes, or that it failed, which a line on the error output then says.
 pub enum Input {
     Bytes(usize),
     Unreadable,
 }
 
+// The most bytes of a program's input.
+pub const LIMIT: usize = 65536;
+
 // A buffer for one file: one byte more than a program takes, so that a longer file shows.
-pub const ROOM: usize = 65537;
+pub const ROOM: usize = LIMIT + 1;
 
 // A program's input of this length is over the limit (18).
 pub fn too_long(n: usize) -> bool
     ensures { λ r. ⌜ r ≡ ltb inputLimit n ⌝ }
 {
-    65536 < n
+    LIMIT < n
 }
 
 // Reads until the buffer is full or the input ends.
@@ -100,7 +103,7 @@ pub fn write(buf: &[u8], n: usize) -> bool
 
 // Writes the line of a refusal to standard output.
 pub fn write_refusal(r: Refusal) -> bool {
-    let mut line = [0u8; 51];
+    let mut line = [0u8; lines::REFUSAL];
     let n = lines::put_refusal(&mut line, 0, r);
     write(&line, n)
 }

@@ -1,12 +1,11 @@
 -- Sums and products of 3 by 3 matrices, the 6 by 6 matrices made of them, and what those do to a state.
 use Prim.Native.Nat.{ℕ, _+_, _-_}
 use mathlib.Core.Bool.{cond}
-use mathlib.Core.List.{List}
 use lib.Dec.{ltb}
 use lib.Ieee.{Float}
-use Rattle.bits.specs.F64.{_⊕_, _⊗_, at, +0, sumFrom0}
+use Rattle.bits.specs.F64.{_⊕_, _⊗_, +0, sumFrom0}
 use Rattle.frame.specs.State.{number, stateOf}
-use Rattle.frame.specs.Frame.{Matrix, table, matrix, cell}
+use Rattle.frame.specs.Frame.{Matrix, matrix, cell}
 use Rattle.frame.specs.declared.State.{State}
 
 -- The product of two 3 by 3 matrices: unlike the rotation's, each sum starts at +0.
@@ -32,13 +31,3 @@ inverseOf m = blocks (λ i j. cell m j i) (λ i j. +0) (λ i j. cell m (j + 3) i
 -- A 6 by 6 matrix times a state: each sum starts at +0.
 abbrev pub appliedState : Matrix → State → State
 appliedState m s = stateOf (λ i. sumFrom0 (λ j. cell m i j ⊗ number s j) 6)
-
--- ---- what the small functions of the code do
-
--- A row of three times a 3 by 3 matrix: a row of their product.
-abbrev pub rowTimes : List Float → Matrix → List Float
-rowTimes r b = table 3 (λ j. sumFrom0 (λ k. at r k ⊗ cell b k j) 3)
-
--- A row of six times a state: the sum starts at +0.
-abbrev pub timesState : List Float → State → Float
-timesState r s = sumFrom0 (λ j. at r j ⊗ number s j) 6

@@ -2,7 +2,8 @@
 // The Rust's loops over 3 or 6 places are written out: the operations and their order stay.
 
 ghost use mathlib.Core.Path.{_≡_};
-ghost use Rattle.sxform.specs.Sxform.{rowTimes, productOf, sumOf, sxformOf, inverseOf, timesState, appliedState};
+ghost use Rattle.sxform.specs.Sxform.{productOf, sumOf, sxformOf, inverseOf, appliedState};
+ghost use Rattle.sxform.specs.Steps.{rowTimes, timesState};
 use frame::State;
 
 // A row times a matrix: unlike the rotation's, each sum starts at +0.

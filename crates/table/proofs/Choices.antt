@@ -59,7 +59,7 @@ module _ (test : Segment → Bool) (segs : List Segment) where
   abbrev hit : ℕ → Choice
   hit k = cond (test (seg segs k)) (At k) Nothing
 
-  -- a turn, where the scan has come to suc k
+  -- a turn, where the scan has reached suc k
   pub else-turn : (c : Choice) (k : ℕ) → orElse c (lastIn test segs (suc k)) ≡ orElse (orElse c (hit k)) (lastIn test segs (leftOf (orElse c (hit k)) k))
   else-turn c k =
       ap (orElse c) (last-turn test segs (suc k) k _ refl refl ∙ hit-else (test (seg segs k)) k (lastIn test segs k))

@@ -5,4 +5,4 @@ pub mod Choosing
 pub mod Marks
 pub mod Naming
 pub mod Steps
-pub mod Paper
+pub mod Told

@@ -9,7 +9,7 @@ pub struct Part {
 }
 
 /// An SPK (numbers: target, center, frame, type) or PCK (body frame, reference frame, type)
-/// kernel of these segments, 25 to a summary record, data behind the last name record.
+/// kernel of these segments, 25 to a summary record, data after the last name record.
 pub fn build(id: &[u8; 8], parts: &[Part]) -> Vec<u8> {
     let ni = parts.first().map_or(6, |p| p.numbers.len() + 2);
     let pairs = (parts.len() + 24) / 25;

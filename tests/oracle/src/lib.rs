@@ -1,6 +1,6 @@
 //! The given Rust, its texts unchanged, under a crate root of our own that names only them.
 //! `setup.sh` compares the checkout with the pinned sums and then makes `target/given`, which leads to it.
-//! Only a child module sees private functions, so spk.rs and frame.rs are read with one of ours behind their text.
+//! Only a child module sees private functions, so spk.rs and frame.rs are read with one of ours after their text.
 #![feature(int_roundings, let_else)]
 #![allow(stable_features)]
 

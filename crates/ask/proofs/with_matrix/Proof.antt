@@ -26,11 +26,11 @@ enum-known-input c = search needs
 array-share-prefix-buf : tie.Need-array-share-prefix-buf
 array-share-prefix-buf c = read (c .before) .0
 
-slice-aggregate-reply-turned : tie.Need-slice-aggregate-reply-turned
-slice-aggregate-reply-turned c = read (c .before .before) .1
+slice-aggregate-print-turned : tie.Need-slice-aggregate-print-turned
+slice-aggregate-print-turned c = read (c .before .before) .1
 
-reply-turned-requires : tie.Need-reply-turned-requires
-reply-turned-requires c κs = search needs
+print-turned-requires : tie.Need-print-turned-requires
+print-turned-requires c κs = search needs
 
 enum-told : tie.Need-enum-told
 enum-told c = search needs
@@ -50,8 +50,8 @@ with-matrix-spec =
     read-argument-requires
     enum-known-input
     array-share-prefix-buf
-    slice-aggregate-reply-turned
-    reply-turned-requires
+    slice-aggregate-print-turned
+    print-turned-requires
     enum-told
     returns
     returns-2)

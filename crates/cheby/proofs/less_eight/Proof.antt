@@ -1,4 +1,4 @@
--- `cheby::less_eight` meets its contract: four doubles, and the four behind them. Assumes nothing.
+-- `cheby::less_eight` meets its contract: four doubles, and the four after them. Assumes nothing.
 use native.Mathlib.Omega.{arith}
 use denote.Ref.{now}
 use borrow.Author.Needs.{needs}

@@ -1,4 +1,4 @@
--- `cheby::three_clear` meets its contract. The loop's invariant: `at` is 8 i doubles behind p, no more than the record has, and where the sums are finite none of these is a NaN.
+-- `cheby::three_clear` meets its contract. The loop's invariant: `at` is 8 i doubles after p, no more than the record has, and where the sums are finite none of these is a NaN.
 -- Assumes nothing.
 use Prim.Native.Nat.{ℕ, _≤_, _+_, _*_, _-_}
 use mathlib.Core.Path.{_≡_, refl}

@@ -6,7 +6,7 @@ use native.Mathlib.Omega.{arith}
 use borrow.Author.Needs.{needs}
 use Rattle.daf.specs.Walk.{countOf}
 use Rattle.daf.specs.Summaries.{anyOver25, total as sumOf}
-use Rattle.daf.specs.Reading.{along, Sound}
+use Rattle.daf.specs.Steps.{along, Sound}
 use Rattle.daf.proofs.Counting.{over-yes, over-no, over-none, total-more, total-none, sound-here, sound-next, counted-over, counted-many, counted-fine}
 use Rattle.daf.proofs.counted.Statement.{statement}
 use Rattle.daf.proofs.counted.Tie as tie

@@ -1,4 +1,4 @@
--- `daf::open` meets its contract: the file record decides, and then what is behind it. Assumes nothing.
+-- `daf::open` meets its contract: the file record decides, and then what is after it. Assumes nothing.
 use mathlib.Core.Path.{sym, _∙_}
 use Rattle.daf.proofs.Heading.{open-refused, open-next}
 use borrow.Author.Needs.{needs}

@@ -1,4 +1,4 @@
--- `daf::open_from` meets its contract: what the walk came to decides. Assumes nothing.
+-- `daf::open_from` meets its contract: what the walk resulted in decides. Assumes nothing.
 use mathlib.Core.Path.{refl, sym, _∙_}
 use denote.Ref.{now}
 use Rattle.daf.proofs.Counting.{stopped, went, counted-next}

@@ -68,7 +68,7 @@ module _ {M : Type 1} (𝓤 : URA M) (H : Heap 𝓤) (A : Atoms 𝓤) (mem : Mem
     abbrev stepped : Leg → Step
     stepped = stepBy (evaluated Spk (k .now)) (t .now) n (firstOf (x .now)) (aboveOf (x .now))
 
-    -- what the triple binds outside, and what a walk from here comes to
+    -- what the triple binds outside, and what a walk from here results in
     abbrev to : Next → ℕ → the-walk-by 𝓤 H A mem run .Ghost
     to a w = to-walk-by 𝓤 H A mem run κ κ′ κ″ q q′ q″ k t x n a w
 

@@ -9,7 +9,7 @@ use Rattle.opening.specs.declared.Plan.{Plan}
 use Rattle.table.specs.Places.{lentLimit}
 use Rattle.table.specs.Marks.{markedTo}
 use Rattle.table.proofs.Marks.{length-marked}
-use Rattle.opening.specs.Planning.{countIn, cursorIn, marksFor, filled, Fits}
+use Rattle.opening.specs.Steps.{countIn, cursorIn, marksFor, filled, Fits}
 use Rattle.opening.proofs.Planning.{filled-length}
 use Rattle.opening.proofs.Planned.{marks-most}
 use Rattle.indexed.specs.Opening.{indexedBy}

@@ -14,7 +14,7 @@ use Rattle.indexed.specs.Asking.{chainedBy}
 use Rattle.indexed.specs.Stepping.{stepBy}
 use Rattle.indexed.proofs.Stepping.{onBy}
 use Rattle.indexed.proofs.Asking.{chained-told, chained-failed}
-use Rattle.spk.specs.Finding.{isFailed}
+use Rattle.spk.specs.Steps.{isFailed}
 use Rattle.chain.specs.Walk.{chainLimit}
 use Rattle.chain.specs.Steps.{begin}
 use Rattle.spk.specs.Questions.{swapped}

@@ -5,7 +5,7 @@ use Rattle.segment.specs.declared.Segment.{Segment}
 use Rattle.opening.specs.declared.Plan.{Plan}
 use mathlib.Core.Bool.{not}
 use Rattle.table.specs.Places.{lentLimit}
-use Rattle.opening.specs.Planning.{countIn}
+use Rattle.opening.specs.Steps.{countIn}
 use Rattle.index.specs.Parts.{filledIndex}
 use Rattle.index.proofs.Parts.{filled-length}
 use Rattle.indexed.specs.Opening.{takes, indexedBy}

@@ -10,7 +10,7 @@ use mir.Syntax.{w16}
 use Rattle.index.specs.Visiting.{startOf, onDown}
 use Rattle.index.specs.Parts.{Roomy, lastOf, belowOf}
 use Rattle.indexed.specs.Orienting.{bodyFound}
-use Rattle.pck.specs.Finding.{bodyHits, bodyAt}
+use Rattle.pck.specs.Steps.{bodyHits, bodyAt}
 use Rattle.table.specs.declared.Choice.the-variants.{Nothing}
 use Rattle.table.specs.Segments.{seg}
 use Rattle.table.specs.Choosing.{orElse}
@@ -84,7 +84,7 @@ module _ {M : Type 1} (𝓤 : URA M) (H : Heap 𝓤) (A : Atoms 𝓤) (W : Given
   abbrev rest : Choice → ℕ → Choice
   rest c i = Left (bodyHits y) (t .now) n ds bs (y .body) c i
 
-  -- where a turn begins: the place that the walk has come to, and what is kept
+  -- where a turn begins: the place that the walk has reached, and what is kept
   abbrev Upto : Type 0
   Upto = (i : ℕ) × (c : Choice) × (i < 2 ^ 64) × Is Cho c (cho c ∷ []) × (bodyFound (t .now) n (x .now) y ≡ rest c i)
 

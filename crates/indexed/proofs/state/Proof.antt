@@ -1,7 +1,7 @@
 -- `indexed::state` meets its contract: a walk of its MIR, by hand: two paths, by whether the index has room.
 -- Assumes nothing.
 use Rattle.lent.proofs.Walking.{ℕ, Lft, Share, ftrue, flft, fat, froom, fdies, SProp, ent, emp, via, fst∗, Lfts, Fun, givenOf, tables, tablesOf, usize, u8, yes, Is, pointee, uint-makes, uint-vals, uint-tells, owns, RefT, plain, sliceVal, ShrSlice, Room, slice-vals, shr-slice-tells, sliceTy, owned, nothing, Vals, onEntry, Meets, tripleOf, Triple, entered, cited, Stays, stay-none-slice, walkOf, goes-none-slice, Walks, ends-at, walked, walk-meets, stay-none, goes-none, Atoms, fullShare, URA, length, Bool, true, false, List, [], _∷_, refl, _≡_, named, w64, tyInt, tyBool, Ty, imm, w8, tyRef, Val, vint, vbool, Memory, Routine, Heap, WpFn, Tables, Env, WpFn-mono, FmC, fmOf, Given, ‵, _⊛_, _$_, _∵_, !, qed, by, move, suffices, frame, done, ⋆, keep, split, join, rewrite, fsplit, fjoin, Item, Sq, runs, atRet, frees, prop, look, init, forget, stop, from, load, returns, enter, alloc1, alloc0, params1, pass1, pass0, free1, free0, and-then, no-more, land, first, exec, branches, skips, returns-within}
-use Rattle.spk.specs.Paper.{askedTold}
+use Rattle.spk.specs.Told.{askedTold}
 use Rattle.lent.proofs.Telling.{tells}
 use Rattle.segment.specs.declared.Segment.{Segment}
 use Rattle.spk.specs.declared.Asked.{Asked}

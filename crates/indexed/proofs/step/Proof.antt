@@ -1,5 +1,5 @@
 -- `indexed::step` meets its contract: a walk of its MIR, by hand, with a loop that has a branch.
--- A turn begins with what is kept: what the step still comes to over the rest of the walk is what it comes to over all of it.
+-- A turn begins with what is kept: what the step still results in over the rest of the walk is what it results in over all of it.
 -- Assumes nothing.
 use Rattle.lent.proofs.Walking.{ℕ, _<_, _≤_, Lft, Share, ftrue, flft, fat, froom, fdies, SProp, ent, ltb-true, ltb-false, Lfts, Fun, givenOf, tables, tablesOf, usize, u8, yes, Is, pointee, uint-makes, uint-vals, uint-tells, owns, RefT, plain, sliceVal, ShrSlice, Room, slice-vals, shr-slice-tells, sliceTy, owned, nothing, Vals, onEntry, Meets, tripleOf, Triple, entered, cited, says, Stays, stay-none-slice, walkOf, goes-none-slice, Walks, ends-at, walked, walk-meets, needs, stay-none, goes-none, Atoms, fullShare, URA, ltb, length, Nat·lt-wfRel, Bool, true, false, List, [], _∷_, refl, sym, _≡_, _∙_, WellFounded, InvImage·wf, named, w64, tyInt, tyBool, Ty, imm, w8, tyRef, Val, vint, vbool, lt-of-lt-of-le, arith, Memory, Routine, afterTurn, Heap, WpFn, Tables, Out, Env, Wp, afterSeq, afterBlock, atReturn, WpFn-mono, FmC, fmOf, Given, ‵, _⊛_, _$_, _∵_, !, qed, by, move, suffices, frame, done, ⋆, keep, split, join, rewrite, fsplit, fjoin, Item, Sq, runs, anyQ, atRet, frees, prop, agg, look, init, forget, stop, from, load, of-opd, assigns, returns, enter, alloc1, alloc0, params1, pass1, pass0, free1, free0, lit, bin, store, and-then, no-more, assigns-last, land, first, blocks, stays, leaves-loop, loops, again, Below, exec, branches, skips}
 use Rattle.segment.specs.declared.Segment.{Segment}
@@ -100,7 +100,7 @@ module _ {M : Type 1} (𝓤 : URA M) (H : Heap 𝓤) (A : Atoms 𝓤) (W : Given
   abbrev us : List ℕ
   us = aboveOf (x .now)
 
-  -- what a step that has come to i with this still comes to
+  -- what a step that has reached i with this still results in
   abbrev still : Step → ℕ → Step
   still c i = stepOver (evaluated Spk (k .now)) (t .now) l c (restUp us n i)
 

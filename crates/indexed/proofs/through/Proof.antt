@@ -20,13 +20,13 @@ use Rattle.spk.specs.Choosing.{rememberedAt}
 use Rattle.spk.specs.Asking.{answerTo}
 use Rattle.table.specs.Segments.{seg}
 use Rattle.table.specs.Steps.{placeIn}
-use Rattle.spk.specs.Finding.{isEarly}
+use Rattle.spk.specs.Steps.{isEarly}
 use Rattle.indexed.proofs.through.Code.Mir as body
 use Rattle.lent.proofs.Seg.{Seg, Seg-ty, lawful}
 use Rattle.lent.proofs.Rows.{Ans-ty, ans-lawful, Ask, Ask-ty, ask, ask-lawful, ask-makes, Cho-ty, cho-lawful, Mem, Mem-ty, mmy, mmy-tells, mmy-lawful, mmy-makes, Que, Que-ty, que, que-tells, que-lawful, que-makes}
 use Rattle.lent.proofs.Calls.{ShrOwn}
 use Rattle.indexed.proofs.Calls.{the-choice-by, the-backward-by, calls-choice-by, calls-backward-by, out-choice-by, out-backward-by}
-use Rattle.lent.proofs.Calls.{the-table-len, the-is-early, the-early, the-place-in, the-segment-at, the-after, the-forward, the-unchanged, calls-table-len, calls-is-early, calls-early, calls-place-in, calls-segment-at, calls-after, calls-forward, calls-unchanged, out-early, out-segment-at, out-after, out-forward, out-unchanged}
+use Rattle.lent.proofs.Calls.{the-table-len, the-is-early, the-early, the-place-in, the-segment-at, the-after, the-forward, the-with-memory, calls-table-len, calls-is-early, calls-early, calls-place-in, calls-segment-at, calls-after, calls-forward, calls-with-memory, out-early, out-segment-at, out-after, out-forward, out-with-memory}
 use Rattle.lent.proofs.table_len.Symbol as d-table-len
 use Rattle.lent.proofs.table_len.Symbol.{name as #table-len}
 use Rattle.lent.proofs.table_len.Met as t-table-len
@@ -54,9 +54,9 @@ use Rattle.spk.proofs.forward.Met as t-forward
 use Rattle.indexed.proofs.backward.Symbol as d-backward-by
 use Rattle.indexed.proofs.backward.Symbol.{name as #backward-by}
 use Rattle.indexed.proofs.backward.Met as t-backward-by
-use Rattle.spk.proofs.unchanged.Symbol as d-unchanged
-use Rattle.spk.proofs.unchanged.Symbol.{name as #unchanged}
-use Rattle.spk.proofs.unchanged.Met as t-unchanged
+use Rattle.spk.proofs.with_memory.Symbol as d-with-memory
+use Rattle.spk.proofs.with_memory.Symbol.{name as #with-memory}
+use Rattle.spk.proofs.with_memory.Met as t-with-memory
 use Rattle.indexed.proofs.through.Key.{name as #self}
 use Rattle.indexed.proofs.through as f
 use Rattle.indexed.proofs.through.Statement as stated
@@ -120,7 +120,7 @@ module _ {M : Type 1} (𝓤 : URA M) (H : Heap 𝓤) (A : Atoms 𝓤) (W : Given
   abbrev X-ty : Ty
   X-ty = sliceTy (tyRef (named 2) imm (tyInt w16))
 
-  module _ (𝓣 : Tables 𝓤 H) (known-table-len : Triple 𝓤 (𝓣 .C #table-len) (the-table-len 𝓤 H A mem run)) (known-is-early : Triple 𝓤 (𝓣 .C #is-early) (the-is-early 𝓤 H A mem run)) (known-early : Triple 𝓤 (𝓣 .C #early) (the-early 𝓤 H A mem run)) (known-choice-by : Triple 𝓤 (𝓣 .C #choice-by) (the-choice-by 𝓤 H A mem run)) (known-place-in : Triple 𝓤 (𝓣 .C #place-in) (the-place-in 𝓤 H A mem run)) (known-segment-at : Triple 𝓤 (𝓣 .C #segment-at) (the-segment-at 𝓤 H A mem run)) (known-after : Triple 𝓤 (𝓣 .C #after) (the-after 𝓤 H A mem run)) (known-forward : Triple 𝓤 (𝓣 .C #forward) (the-forward 𝓤 H A mem run)) (known-backward-by : Triple 𝓤 (𝓣 .C #backward-by) (the-backward-by 𝓤 H A mem run)) (known-unchanged : Triple 𝓤 (𝓣 .C #unchanged) (the-unchanged 𝓤 H A mem run)) where
+  module _ (𝓣 : Tables 𝓤 H) (known-table-len : Triple 𝓤 (𝓣 .C #table-len) (the-table-len 𝓤 H A mem run)) (known-is-early : Triple 𝓤 (𝓣 .C #is-early) (the-is-early 𝓤 H A mem run)) (known-early : Triple 𝓤 (𝓣 .C #early) (the-early 𝓤 H A mem run)) (known-choice-by : Triple 𝓤 (𝓣 .C #choice-by) (the-choice-by 𝓤 H A mem run)) (known-place-in : Triple 𝓤 (𝓣 .C #place-in) (the-place-in 𝓤 H A mem run)) (known-segment-at : Triple 𝓤 (𝓣 .C #segment-at) (the-segment-at 𝓤 H A mem run)) (known-after : Triple 𝓤 (𝓣 .C #after) (the-after 𝓤 H A mem run)) (known-forward : Triple 𝓤 (𝓣 .C #forward) (the-forward 𝓤 H A mem run)) (known-backward-by : Triple 𝓤 (𝓣 .C #backward-by) (the-backward-by 𝓤 H A mem run)) (known-with-memory : Triple 𝓤 (𝓣 .C #with-memory) (the-with-memory 𝓤 H A mem run)) where
     abbrev fm : FmC 𝓤 H (W .laws) (𝓣 .C)
     fm = fmOf 𝓤 H (W .laws) 𝓣
 
@@ -191,9 +191,9 @@ module _ {M : Type 1} (𝓤 : URA M) (H : Heap 𝓤) (A : Atoms 𝓤) (W : Given
           (λ _. skips ! $ exec ! (𝓣 .C) (𝓣 .Λ) En body.t-8 (atRet En Post) $
           calls-backward-by 𝓤 H A mem run κ κ′ κ″ q q′ q″ k t x n y W fm known-backward-by (most e1, within) is-n is-y
           (and-then ! (load ! (from ! (stop !)) (look ! 32 refl)) (and-then ! (load ! (from ! (stop !)) (look ! 30 refl)) (and-then ! (load ! (from ! (stop !)) (look ! 28 refl)) (and-then ! (load ! (from ! (stop !)) (look ! 26 refl)) (and-then ! (load ! (from ! (stop !)) (look ! 22 refl)) (no-more !)))))) (λ is-13. land ! (from ! (stop !)) (init ! 10 refl (ans-lawful 𝓤 H A W .typed (out-backward-by 𝓤 H A mem run κ κ′ κ″ q q′ q″ k t x n y) _ is-13 .0)) $
-          calls-unchanged 𝓤 H A mem run (answerTo (backwardBy (evaluated Spk (k .now)) (t .now) n (x .now) y)) m W fm known-unchanged is-13 is-m
-          (and-then ! (load ! (from ! (stop !)) (look ! 11 refl)) (and-then ! (load ! (from ! (stop !)) (look ! 27 refl)) (no-more !))) (λ is-0. land ! (from ! (stop !)) (init ! 36 refl (ask-lawful 𝓤 H A W .typed (out-unchanged 𝓤 H A mem run (answerTo (backwardBy (evaluated Spk (k .now)) (t .now) n (x .now) y)) m) _ is-0 .0)) $
-          returns ! (look ! 36 refl) $ forget ! 6 refl $ forget ! 8 refl $ forget ! 10 refl $ forget ! 18 refl $ forget ! 20 refl $ forget ! 22 refl $ forget ! 24 refl $ forget ! 26 refl $ forget ! 28 refl $ forget ! 30 refl $ forget ! 32 refl $ forget ! 34 refl $ forget ! 36 refl $ ends (out-unchanged 𝓤 H A mem run (answerTo (backwardBy (evaluated Spk (k .now)) (t .now) n (x .now) y)) m) (through-back limit (evaluated Spk (k .now)) (t .now) n (x .now) m y e1 (ltb-false i n e2)) is-0))))))))
+          calls-with-memory 𝓤 H A mem run (answerTo (backwardBy (evaluated Spk (k .now)) (t .now) n (x .now) y)) m W fm known-with-memory is-13 is-m
+          (and-then ! (load ! (from ! (stop !)) (look ! 11 refl)) (and-then ! (load ! (from ! (stop !)) (look ! 27 refl)) (no-more !))) (λ is-0. land ! (from ! (stop !)) (init ! 36 refl (ask-lawful 𝓤 H A W .typed (out-with-memory 𝓤 H A mem run (answerTo (backwardBy (evaluated Spk (k .now)) (t .now) n (x .now) y)) m) _ is-0 .0)) $
+          returns ! (look ! 36 refl) $ forget ! 6 refl $ forget ! 8 refl $ forget ! 10 refl $ forget ! 18 refl $ forget ! 20 refl $ forget ! 22 refl $ forget ! 24 refl $ forget ! 26 refl $ forget ! 28 refl $ forget ! 30 refl $ forget ! 32 refl $ forget ! 34 refl $ forget ! 36 refl $ ends (out-with-memory 𝓤 H A mem run (answerTo (backwardBy (evaluated Spk (k .now)) (t .now) n (x .now) y)) m) (through-back limit (evaluated Spk (k .now)) (t .now) n (x .now) m y e1 (ltb-false i n e2)) is-0))))))))
 
     walk : ent 𝓤 (onEntry 𝓤 H A f.signature κs (q, (q′, (q″, tt))) a₀ at) (WpFn 𝓤 H (𝓣 .C) (𝓣 .Λ) code.function (kv ∷ tv ∷ xv ∷ vint w64 n ∷ mmy m ∷ que y ∷ []) Post)
     walk =
@@ -205,11 +205,11 @@ module _ {M : Type 1} (𝓤 : URA M) (H : Heap 𝓤) (A : Atoms 𝓤) (W : Given
         goes l₀ l₁ l₂ l₃ l₄ l₅ l₆ l₇ l₈ l₉ l₁₀ l₁₁ l₁₂ l₁₃ l₁₄ l₁₅ (isEarly limit n y) (ltb i n) refl refl))))))))))))))))
 
 module _ {M : Type 1} (𝓤 : URA M) (H : Heap 𝓤) (A : Atoms 𝓤) (W : Given 𝓤 H A) (mem : Memory → SProp 𝓤) (run : Routine → Fun 𝓤) (𝓣 : Tables 𝓤 H)
-    (known-table-len : Triple 𝓤 (𝓣 .C #table-len) (the-table-len 𝓤 H A mem run)) (known-is-early : Triple 𝓤 (𝓣 .C #is-early) (the-is-early 𝓤 H A mem run)) (known-early : Triple 𝓤 (𝓣 .C #early) (the-early 𝓤 H A mem run)) (known-choice-by : Triple 𝓤 (𝓣 .C #choice-by) (the-choice-by 𝓤 H A mem run)) (known-place-in : Triple 𝓤 (𝓣 .C #place-in) (the-place-in 𝓤 H A mem run)) (known-segment-at : Triple 𝓤 (𝓣 .C #segment-at) (the-segment-at 𝓤 H A mem run)) (known-after : Triple 𝓤 (𝓣 .C #after) (the-after 𝓤 H A mem run)) (known-forward : Triple 𝓤 (𝓣 .C #forward) (the-forward 𝓤 H A mem run)) (known-backward-by : Triple 𝓤 (𝓣 .C #backward-by) (the-backward-by 𝓤 H A mem run)) (known-unchanged : Triple 𝓤 (𝓣 .C #unchanged) (the-unchanged 𝓤 H A mem run)) where
+    (known-table-len : Triple 𝓤 (𝓣 .C #table-len) (the-table-len 𝓤 H A mem run)) (known-is-early : Triple 𝓤 (𝓣 .C #is-early) (the-is-early 𝓤 H A mem run)) (known-early : Triple 𝓤 (𝓣 .C #early) (the-early 𝓤 H A mem run)) (known-choice-by : Triple 𝓤 (𝓣 .C #choice-by) (the-choice-by 𝓤 H A mem run)) (known-place-in : Triple 𝓤 (𝓣 .C #place-in) (the-place-in 𝓤 H A mem run)) (known-segment-at : Triple 𝓤 (𝓣 .C #segment-at) (the-segment-at 𝓤 H A mem run)) (known-after : Triple 𝓤 (𝓣 .C #after) (the-after 𝓤 H A mem run)) (known-forward : Triple 𝓤 (𝓣 .C #forward) (the-forward 𝓤 H A mem run)) (known-backward-by : Triple 𝓤 (𝓣 .C #backward-by) (the-backward-by 𝓤 H A mem run)) (known-with-memory : Triple 𝓤 (𝓣 .C #with-memory) (the-with-memory 𝓤 H A mem run)) where
   walks : Walks 𝓤 H A f.ended stayed (WpFn 𝓤 H (𝓣 .C) (𝓣 .Λ) code.function) (f.clauses 𝓤 H A mem run)
   walks = walked 𝓤 H A f.ended stayed (f.clauses 𝓤 H A mem run) (WpFn 𝓤 H (𝓣 .C) (𝓣 .Λ) code.function) (λ κs. (slice-vals, (slice-vals, (slice-vals, (uint-vals w64, ((λ c. mmy c ∷ []), ((λ c. que c ∷ []), tt)))))))
       (λ κs. (shr-slice-tells (named 0) (κs .0) u8, (shr-slice-tells (named 1) (κs .1 .0) Seg, (shr-slice-tells (named 2) (κs .1 .1 .0) u16, (uint-tells w64, (mmy-tells, (que-tells, tt)))))))
-      (λ κs qs bounds a g are. needs 𝓤 _ _ (λ within. walk 𝓤 H A W mem run (κs .0) (κs .1 .0) (κs .1 .1 .0) (qs .0) (qs .1 .0) (qs .1 .1 .0) (a .0) (a .1 .0) (a .1 .1 .0) (a .1 .1 .1 .0) (a .1 .1 .1 .1 .0) (a .1 .1 .1 .1 .1 .0) (are .0 .0 .1) (are .1 .0 .0 .1) (are .1 .1 .0 .0 .1) (are .1 .1 .1 .0) (are .1 .1 .1 .1 .0) (are .1 .1 .1 .1 .1 .0) within 𝓣 known-table-len known-is-early known-early known-choice-by known-place-in known-segment-at known-after known-forward known-backward-by known-unchanged))
+      (λ κs qs bounds a g are. needs 𝓤 _ _ (λ within. walk 𝓤 H A W mem run (κs .0) (κs .1 .0) (κs .1 .1 .0) (qs .0) (qs .1 .0) (qs .1 .1 .0) (a .0) (a .1 .0) (a .1 .1 .0) (a .1 .1 .1 .0) (a .1 .1 .1 .1 .0) (a .1 .1 .1 .1 .1 .0) (are .0 .0 .1) (are .1 .0 .0 .1) (are .1 .1 .0 .0 .1) (are .1 .1 .1 .0) (are .1 .1 .1 .1 .0) (are .1 .1 .1 .1 .1 .0) within 𝓣 known-table-len known-is-early known-early known-choice-by known-place-in known-segment-at known-after known-forward known-backward-by known-with-memory))
 
   meets : Meets 𝓤 H A f.signature (WpFn 𝓤 H (𝓣 .C) (𝓣 .Λ) code.function) (f.spec 𝓤 H A mem run)
   meets =
@@ -231,4 +231,4 @@ through-spec 𝓤 H 𝓜 𝓖 𝓡 =
     (cited 𝓤 H (the-after 𝓤 H (𝓖 .A) (𝓜 .mem) (𝓡 .run)) 𝓜 𝓡 code.env #after d-after.routine code.calls-spk·Memory·after (t-after.met 𝓤 H 𝓜 𝓖 𝓡))
     (cited 𝓤 H (the-forward 𝓤 H (𝓖 .A) (𝓜 .mem) (𝓡 .run)) 𝓜 𝓡 code.env #forward d-forward.routine code.calls-spk·forward (t-forward.met 𝓤 H 𝓜 𝓖 𝓡))
     (cited 𝓤 H (the-backward-by 𝓤 H (𝓖 .A) (𝓜 .mem) (𝓡 .run)) 𝓜 𝓡 code.env #backward-by d-backward-by.routine code.calls-indexed·backward (t-backward-by.met 𝓤 H 𝓜 𝓖 𝓡))
-    (cited 𝓤 H (the-unchanged 𝓤 H (𝓖 .A) (𝓜 .mem) (𝓡 .run)) 𝓜 𝓡 code.env #unchanged d-unchanged.routine code.calls-spk·unchanged (t-unchanged.met 𝓤 H 𝓜 𝓖 𝓡)))
+    (cited 𝓤 H (the-with-memory 𝓤 H (𝓖 .A) (𝓜 .mem) (𝓡 .run)) 𝓜 𝓡 code.env #with-memory d-with-memory.routine code.calls-spk·with-memory (t-with-memory.met 𝓤 H 𝓜 𝓖 𝓡)))

@@ -10,7 +10,7 @@ use denote.Builtin.{u16}
 use mir.Syntax.{w16}
 use Rattle.index.specs.Parts.{Roomy}
 use Rattle.indexed.specs.Orienting.{bodyFound, orientedThrough}
-use Rattle.pck.specs.Finding.{isEarly as bodyEarly}
+use Rattle.pck.specs.Steps.{isEarly as bodyEarly}
 use Rattle.table.proofs.Limits.{limit-told}
 use Rattle.pck.proofs.Finding.{given-early, given-at, given-none, late-fits}
 use Rattle.indexed.proofs.Orienting.{found-within}

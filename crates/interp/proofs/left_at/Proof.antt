@@ -1,4 +1,4 @@
--- `interp::left_at` meets its contract. The loop's invariant: from lo and hi the search comes to what it comes to from 0 and n.
+-- `interp::left_at` meets its contract. The loop's invariant: from lo and hi the search finds what it finds from 0 and n.
 -- Assumes nothing.
 use Prim.Native.Nat.{ℕ, _≤_, _-_}
 use mathlib.Core.Path.{refl, sym, ap, _∙_}

@@ -54,7 +54,7 @@ module _ {M : Type 1} (𝓤 : URA M) (H : Heap 𝓤) (A : Atoms 𝓤) (mem : Mem
     abbrev tv : Val
     tv = sliceVal (t .ptr) (length (t .now))
 
-    -- what the triple binds outside, and what a walk from here comes to
+    -- what the triple binds outside, and what a walk from here results in
     abbrev to : Next → ℕ → the-walk 𝓤 H A mem run .Ghost
     to a w = to-walk 𝓤 H A mem run κ κ′ q q′ k t n a w
 

@@ -9,7 +9,7 @@ use Rattle.segment.specs.Evaluating.{evaluated}
 use Rattle.table.specs.Places.{lentLimit}
 use Rattle.chain.proofs.Walks.{ahead}
 use Rattle.spk.proofs.Finding.{chain-told, chain-failed}
-use Rattle.spk.specs.Finding.{isFailed}
+use Rattle.spk.specs.Steps.{isFailed}
 use Rattle.chain.specs.Walk.{chainLimit}
 use Rattle.chain.specs.Steps.{begin}
 use Rattle.spk.specs.Questions.{swapped}

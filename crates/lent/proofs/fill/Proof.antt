@@ -5,7 +5,7 @@ use Rattle.lent.proofs.Walking.{ℕ, _<_, suc, _≤_, _-_, zero-le, Lft
 use Rattle.segment.specs.declared.Segment.{Segment}
 use Rattle.daf.specs.declared.Cursor.{Cursor}
 use Rattle.daf.specs.declared.Family.{Family}
-use Rattle.opening.specs.Planning.{cursorAt, Ready, hereOf, filled}
+use Rattle.opening.specs.Steps.{cursorAt, Ready, hereOf, filled}
 use Rattle.opening.proofs.Planning.{filled-length, filled-none, filled-next, cursor-none, cursor-next, ready-at}
 use Rattle.lent.proofs.fill.Code.Mir as body
 use Rattle.lent.proofs.Seg.{Seg, Seg-ty, TabMut-ty, lawful}

@@ -11,7 +11,7 @@ use Rattle.table.specs.declared.Choice.the-variants.{Nothing}
 use Rattle.table.specs.Segments.{seg}
 use Rattle.table.specs.Choosing.{lastIn, orElse}
 use Rattle.table.specs.Steps.{leftOf}
-use Rattle.pck.specs.Finding.{bodyHits, bodyAt}
+use Rattle.pck.specs.Steps.{bodyHits, bodyAt}
 use Rattle.lent.proofs.last_body.Code.Mir as body
 use Rattle.lent.proofs.Seg.{Seg, Seg-ty, Tab-ty, lawful}
 use Rattle.lent.proofs.Rows.{Bod, Bod-ty, bod, bod-tells, bod-lawful, bod-makes, is-nothing, Cho, Cho-ty, cho, cho-lawful, cho-makes, is-nothing}

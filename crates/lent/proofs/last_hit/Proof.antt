@@ -12,7 +12,7 @@ use Rattle.table.specs.Segments.{seg}
 use Rattle.table.specs.Choosing.{lastIn, orElse}
 use Rattle.table.specs.Steps.{leftOf}
 use Rattle.spk.specs.Questions.{hits}
-use Rattle.spk.specs.Finding.{hitAt}
+use Rattle.spk.specs.Steps.{hitAt}
 use Rattle.lent.proofs.last_hit.Code.Mir as body
 use Rattle.lent.proofs.Seg.{Seg, Seg-ty, Tab-ty, lawful}
 use Rattle.lent.proofs.Rows.{is-nothing, Cho, Cho-ty, cho, cho-lawful, cho-makes, Que, Que-ty, que, que-tells, que-lawful, que-makes}

@@ -2,13 +2,13 @@
 -- Assumes nothing.
 use Rattle.lent.proofs.Walking.{ℕ, Lft, Share, ftrue, flft, GName, SProp, ent, emp, via, fst∗, Lfts, Fun, givenOf, tables, tablesOf, u8, yes, Is, pointee, owns, RefT, plain, sliceVal, ShrSlice, Room, slice-vals, shr-slice-tells, MutSlice, mut-slice-tells, sliceTy, owned, nothing, Vals, onEntry, Meets, tripleOf, Triple, entered, cited, Stays, stay-none-slice, walkOf, goes-none-slice, Walks, ends-at, walked, walk-meets, stay-none, goes-none, stay-slice, goes-slice, Atoms, URA, length, List, [], _∷_, refl, _≡_, named, tyInt, Ty, erased, imm, mut, w8, tyRef, Val, Memory, Routine, Heap, WpFn, Tables, WpFn-mono, FmC, fmOf, Given, ‵, _⊛_, _$_, _∵_, !, qed, by, move, suffices, frame, done, ⋆, keep, split, join, fsplit, fjoin, whole, sub, look-in, agg, look, init, forget, stop, fld, from, load, of-opd, assigns, returns, enter, alloc1, alloc0, params1, pass1, pass0, free1, free0, hop, and-then, no-more, land, addr}
 use mathlib.Core.Path.{ap}
-use Rattle.opening.specs.Paper.{foundTold}
+use Rattle.opening.specs.Told.{foundTold}
 use Rattle.lent.proofs.Telling.{says-both}
 use Rattle.segment.specs.declared.Segment.{Segment}
 use Rattle.daf.specs.declared.Family.{Family}
 use Rattle.opening.specs.declared.Plan.{Plan}
 use Rattle.table.specs.Places.{limitOf}
-use Rattle.opening.specs.Planning.{planOf, foundIn, carriedOut}
+use Rattle.opening.specs.Steps.{planOf, foundIn, carriedOut}
 use Rattle.opening.proofs.Planned.{plan-ready, carried-length, found-told, table-told}
 use Rattle.lent.proofs.Seg.{Seg}
 use Rattle.lent.proofs.Rows.{Fam, fam, fam-tells, fam-lawful, fam-makes, Oco, oco, oco-lawful, oco-makes, pla-lawful}

@@ -1,21 +1,21 @@
 -- `lent::orient` meets its contract: a walk of its MIR, by hand: three paths, by whether a test before the choice decides, and by whether a segment is chosen.
 -- Assumes nothing.
 use Rattle.lent.proofs.Walking.{ℕ, _≤_, Lft, Share, ftrue, flft, fat, froom, fdies, SProp, ent, emp, via, fst∗, ltb-true, ltb-false, Lfts, Fun, givenOf, tables, tablesOf, usize, u8, yes, Is, pointee, uint-makes, uint-vals, uint-tells, owns, RefT, plain, sliceVal, ShrSlice, Room, slice-vals, shr-slice-tells, sliceTy, owned, nothing, Vals, onEntry, Meets, tripleOf, Triple, entered, cited, Stays, stay-none-slice, walkOf, goes-none-slice, Walks, ends-at, walked, walk-meets, stay-none, goes-none, Atoms, fullShare, URA, ltb, length, Bool, true, false, List, [], _∷_, refl, _≡_, _∙_, named, w64, tyInt, tyBool, Ty, imm, w8, tyRef, Val, vint, vbool, lt-of-lt-of-le, Memory, Routine, Heap, WpFn, Tables, Env, WpFn-mono, FmC, fmOf, Given, ‵, _⊛_, _$_, _∵_, !, qed, by, move, suffices, frame, done, ⋆, keep, split, join, rewrite, fsplit, fjoin, Item, Sq, runs, atRet, frees, prop, look, init, forget, stop, from, load, assigns, returns, enter, alloc1, alloc0, params1, pass1, pass0, free1, free0, bin, and-then, no-more, land, first, exec, branches, skips, returns-within}
-use Rattle.pck.specs.Paper.{orientedTold}
+use Rattle.pck.specs.Told.{orientedTold}
 use Rattle.lent.proofs.Telling.{tells}
 use Rattle.segment.specs.declared.Segment.{Segment}
 use Rattle.pck.specs.declared.Question.{Question as BodyQuestion}
 use Rattle.table.specs.declared.Choice.{Choice}
 use Rattle.pck.specs.declared.Oriented.{Oriented}
 use Rattle.table.specs.Places.{lentLimit, limitOf}
-use Rattle.pck.specs.Finding.{isEarly as bodyEarly}
+use Rattle.pck.specs.Steps.{isEarly as bodyEarly}
 use Rattle.table.proofs.Limits.{limit-told}
 use Rattle.pck.proofs.Finding.{given, given-early, given-at, given-none, late-fits, body-within, oriented-told}
 use Rattle.table.specs.Choosing.{lastIn}
 use Rattle.table.specs.Steps.{placeIn}
 use Rattle.table.specs.Segments.{seg}
 use Rattle.pck.specs.Orienting.{oriented}
-use Rattle.pck.specs.Finding.{bodyHits}
+use Rattle.pck.specs.Steps.{bodyHits}
 use Rattle.lent.proofs.orient.Code.Mir as body
 use Rattle.lent.proofs.Seg.{Seg, Seg-ty, lawful}
 use Rattle.lent.proofs.Rows.{Bod, Bod-ty, bod, bod-tells, bod-lawful, bod-makes, Cho-ty, cho-lawful, Ori, Ori-ty, ori, ori-lawful, ori-makes}

@@ -1,7 +1,7 @@
 -- `lent::orient_alone` meets its contract: a walk of its MIR, by hand: calls alone.
 -- Assumes nothing.
 use Rattle.lent.proofs.Walking.{ℕ, _≤_, Lft, Share, ftrue, flft, SProp, ent, emp, via, fst∗, Lfts, Fun, givenOf, tables, tablesOf, usize, u8, yes, Is, uint-makes, uint-vals, uint-tells, owns, RefT, plain, sliceVal, ShrSlice, Room, slice-vals, shr-slice-tells, owned, nothing, Vals, onEntry, Meets, tripleOf, Triple, entered, cited, Stays, stay-none-slice, walkOf, goes-none-slice, Walks, ends-at, walked, walk-meets, stay-none, goes-none, Atoms, URA, length, List, [], _∷_, refl, _≡_, named, w64, Val, vint, Memory, Routine, Heap, WpFn, Tables, WpFn-mono, FmC, fmOf, Given, ‵, _⊛_, _$_, _∵_, !, qed, by, move, suffices, frame, done, ⋆, keep, split, join, fsplit, fjoin, look, init, forget, stop, from, load, returns, enter, alloc1, alloc0, params1, pass1, pass0, free1, free0, and-then, no-more, land}
-use Rattle.pck.specs.Paper.{orientedTold}
+use Rattle.pck.specs.Told.{orientedTold}
 use Rattle.lent.proofs.Telling.{tells}
 use Rattle.segment.specs.declared.Segment.{Segment}
 use Rattle.pck.specs.declared.Oriented.{Oriented}

@@ -8,7 +8,7 @@ use Rattle.spk.specs.declared.Question.{Question}
 use Rattle.spk.proofs.Finding.{recall-told}
 use Rattle.spk.specs.Choosing.{recall}
 use Rattle.table.specs.Steps.{segOr}
-use Rattle.spk.specs.Finding.{placeKept}
+use Rattle.spk.specs.Steps.{placeKept}
 use Rattle.lent.proofs.Seg.{Seg, lawful}
 use Rattle.lent.proofs.Rows.{Cho, cho, cho-lawful, cho-makes, Mem, mmy, mmy-tells, mmy-lawful, mmy-makes, Que, que, que-tells, que-lawful, que-makes}
 use Rattle.lent.proofs.Calls.{ShrOwn}

@@ -1,7 +1,7 @@
 -- `lent::state` meets its contract: a walk of its MIR, by hand: three paths, by whether a test before the choice decides, and by whether there is a forward choice.
 -- Assumes nothing.
 use Rattle.lent.proofs.Walking.{ℕ, _≤_, Lft, Share, ftrue, flft, fat, froom, fdies, SProp, ent, emp, via, fst∗, ltb-true, ltb-false, Lfts, Fun, givenOf, tables, tablesOf, usize, u8, yes, Is, pointee, uint-makes, uint-vals, uint-tells, owns, RefT, plain, sliceVal, ShrSlice, Room, slice-vals, shr-slice-tells, sliceTy, owned, nothing, Vals, onEntry, Meets, tripleOf, Triple, entered, cited, Stays, stay-none-slice, walkOf, goes-none-slice, Walks, ends-at, walked, walk-meets, stay-none, goes-none, Atoms, fullShare, URA, ltb, length, Bool, true, false, List, [], _∷_, refl, _≡_, named, w64, tyInt, tyBool, Ty, imm, w8, tyRef, Val, vint, vbool, lt-of-lt-of-le, Memory, Routine, Heap, WpFn, Tables, Env, WpFn-mono, FmC, fmOf, Given, ‵, _⊛_, _$_, _∵_, !, qed, by, move, suffices, frame, done, ⋆, keep, split, join, rewrite, fsplit, fjoin, Item, Sq, runs, atRet, frees, prop, look, init, forget, stop, from, load, assigns, returns, enter, alloc1, alloc0, params1, pass1, pass0, free1, free0, bin, and-then, no-more, land, first, exec, branches, skips, returns-within}
-use Rattle.spk.specs.Paper.{askedTold}
+use Rattle.spk.specs.Told.{askedTold}
 use Rattle.lent.proofs.Telling.{tells}
 use Rattle.segment.specs.declared.Segment.{Segment}
 use Rattle.spk.specs.declared.Asked.{Asked}
@@ -18,12 +18,12 @@ use Rattle.spk.specs.Asking as asking
 use Rattle.spk.specs.Asking.{answerTo}
 use Rattle.table.specs.Segments.{seg}
 use Rattle.table.specs.Steps.{placeIn}
-use Rattle.spk.specs.Finding.{isEarly}
+use Rattle.spk.specs.Steps.{isEarly}
 use Rattle.lent.proofs.state.Code.Mir as body
 use Rattle.lent.proofs.Seg.{Seg, Seg-ty, lawful}
 use Rattle.lent.proofs.Rows.{Ans-ty, ans-lawful, Ask, Ask-ty, ask, ask-lawful, ask-makes, Cho-ty, cho-lawful, Mem, Mem-ty, mmy, mmy-tells, mmy-lawful, mmy-makes, Que, Que-ty, que, que-tells, que-lawful, que-makes}
 use Rattle.lent.proofs.Calls.{ShrOwn}
-use Rattle.lent.proofs.Calls.{the-table-len, the-is-early, the-early, the-choice, the-place-in, the-segment-at, the-after, the-forward, the-backward, the-unchanged, calls-table-len, calls-is-early, calls-early, calls-choice, calls-place-in, calls-segment-at, calls-after, calls-forward, calls-backward, calls-unchanged, out-early, out-choice, out-segment-at, out-after, out-forward, out-backward, out-unchanged}
+use Rattle.lent.proofs.Calls.{the-table-len, the-is-early, the-early, the-choice, the-place-in, the-segment-at, the-after, the-forward, the-backward, the-with-memory, calls-table-len, calls-is-early, calls-early, calls-choice, calls-place-in, calls-segment-at, calls-after, calls-forward, calls-backward, calls-with-memory, out-early, out-choice, out-segment-at, out-after, out-forward, out-backward, out-with-memory}
 use Rattle.lent.proofs.table_len.Symbol as d-table-len
 use Rattle.lent.proofs.table_len.Symbol.{name as #table-len}
 use Rattle.lent.proofs.table_len.Met as t-table-len
@@ -51,9 +51,9 @@ use Rattle.spk.proofs.forward.Met as t-forward
 use Rattle.lent.proofs.backward.Symbol as d-backward
 use Rattle.lent.proofs.backward.Symbol.{name as #backward}
 use Rattle.lent.proofs.backward.Met as t-backward
-use Rattle.spk.proofs.unchanged.Symbol as d-unchanged
-use Rattle.spk.proofs.unchanged.Symbol.{name as #unchanged}
-use Rattle.spk.proofs.unchanged.Met as t-unchanged
+use Rattle.spk.proofs.with_memory.Symbol as d-with-memory
+use Rattle.spk.proofs.with_memory.Symbol.{name as #with-memory}
+use Rattle.spk.proofs.with_memory.Met as t-with-memory
 use Rattle.lent.proofs.state.Key.{name as #self}
 use Rattle.lent.proofs.state as f
 use Rattle.lent.proofs.state.Statement as stated
@@ -111,7 +111,7 @@ module _ {M : Type 1} (𝓤 : URA M) (H : Heap 𝓤) (A : Atoms 𝓤) (W : Given
   abbrev Tab₁-ty : Ty
   Tab₁-ty = sliceTy (tyRef (named 1) imm (pointee (Seg .written)))
 
-  module _ (𝓣 : Tables 𝓤 H) (known-table-len : Triple 𝓤 (𝓣 .C #table-len) (the-table-len 𝓤 H A mem run)) (known-is-early : Triple 𝓤 (𝓣 .C #is-early) (the-is-early 𝓤 H A mem run)) (known-early : Triple 𝓤 (𝓣 .C #early) (the-early 𝓤 H A mem run)) (known-choice : Triple 𝓤 (𝓣 .C #choice) (the-choice 𝓤 H A mem run)) (known-place-in : Triple 𝓤 (𝓣 .C #place-in) (the-place-in 𝓤 H A mem run)) (known-segment-at : Triple 𝓤 (𝓣 .C #segment-at) (the-segment-at 𝓤 H A mem run)) (known-after : Triple 𝓤 (𝓣 .C #after) (the-after 𝓤 H A mem run)) (known-forward : Triple 𝓤 (𝓣 .C #forward) (the-forward 𝓤 H A mem run)) (known-backward : Triple 𝓤 (𝓣 .C #backward) (the-backward 𝓤 H A mem run)) (known-unchanged : Triple 𝓤 (𝓣 .C #unchanged) (the-unchanged 𝓤 H A mem run)) where
+  module _ (𝓣 : Tables 𝓤 H) (known-table-len : Triple 𝓤 (𝓣 .C #table-len) (the-table-len 𝓤 H A mem run)) (known-is-early : Triple 𝓤 (𝓣 .C #is-early) (the-is-early 𝓤 H A mem run)) (known-early : Triple 𝓤 (𝓣 .C #early) (the-early 𝓤 H A mem run)) (known-choice : Triple 𝓤 (𝓣 .C #choice) (the-choice 𝓤 H A mem run)) (known-place-in : Triple 𝓤 (𝓣 .C #place-in) (the-place-in 𝓤 H A mem run)) (known-segment-at : Triple 𝓤 (𝓣 .C #segment-at) (the-segment-at 𝓤 H A mem run)) (known-after : Triple 𝓤 (𝓣 .C #after) (the-after 𝓤 H A mem run)) (known-forward : Triple 𝓤 (𝓣 .C #forward) (the-forward 𝓤 H A mem run)) (known-backward : Triple 𝓤 (𝓣 .C #backward) (the-backward 𝓤 H A mem run)) (known-with-memory : Triple 𝓤 (𝓣 .C #with-memory) (the-with-memory 𝓤 H A mem run)) where
     abbrev fm : FmC 𝓤 H (W .laws) (𝓣 .C)
     fm = fmOf 𝓤 H (W .laws) 𝓣
 
@@ -182,9 +182,9 @@ module _ {M : Type 1} (𝓤 : URA M) (H : Heap 𝓤) (A : Atoms 𝓤) (W : Given
           (λ _. skips ! $ exec ! (𝓣 .C) (𝓣 .Λ) En body.t-8 (atRet En Post) $
           calls-backward 𝓤 H A mem run κ κ′ q q′ k t n x W fm known-backward (most e1) is-n is-x
           (and-then ! (load ! (from ! (stop !)) (look ! 29 refl)) (and-then ! (load ! (from ! (stop !)) (look ! 27 refl)) (and-then ! (load ! (from ! (stop !)) (look ! 25 refl)) (and-then ! (load ! (from ! (stop !)) (look ! 21 refl)) (no-more !))))) (λ is-12. land ! (from ! (stop !)) (init ! 8 refl (ans-lawful 𝓤 H A W .typed (out-backward 𝓤 H A mem run κ κ′ q q′ k t n x) _ is-12 .0)) $
-          calls-unchanged 𝓤 H A mem run (answerTo (asking.backward (evaluated Spk (k .now)) (t .now) n x (lastReversed (t .now) n x))) m W fm known-unchanged is-12 is-m
-          (and-then ! (load ! (from ! (stop !)) (look ! 9 refl)) (and-then ! (load ! (from ! (stop !)) (look ! 25 refl)) (no-more !))) (λ is-0. land ! (from ! (stop !)) (init ! 32 refl (ask-lawful 𝓤 H A W .typed (out-unchanged 𝓤 H A mem run (answerTo (asking.backward (evaluated Spk (k .now)) (t .now) n x (lastReversed (t .now) n x))) m) _ is-0 .0)) $
-          returns ! (look ! 32 refl) $ forget ! 4 refl $ forget ! 6 refl $ forget ! 8 refl $ forget ! 16 refl $ forget ! 18 refl $ forget ! 20 refl $ forget ! 22 refl $ forget ! 24 refl $ forget ! 26 refl $ forget ! 28 refl $ forget ! 30 refl $ forget ! 32 refl $ ends (out-unchanged 𝓤 H A mem run (answerTo (asking.backward (evaluated Spk (k .now)) (t .now) n x (lastReversed (t .now) n x))) m) (asked-back limit (evaluated Spk (k .now)) (t .now) n m x e1 (ltb-false i n e2)) is-0))))))))
+          calls-with-memory 𝓤 H A mem run (answerTo (asking.backward (evaluated Spk (k .now)) (t .now) n x (lastReversed (t .now) n x))) m W fm known-with-memory is-12 is-m
+          (and-then ! (load ! (from ! (stop !)) (look ! 9 refl)) (and-then ! (load ! (from ! (stop !)) (look ! 25 refl)) (no-more !))) (λ is-0. land ! (from ! (stop !)) (init ! 32 refl (ask-lawful 𝓤 H A W .typed (out-with-memory 𝓤 H A mem run (answerTo (asking.backward (evaluated Spk (k .now)) (t .now) n x (lastReversed (t .now) n x))) m) _ is-0 .0)) $
+          returns ! (look ! 32 refl) $ forget ! 4 refl $ forget ! 6 refl $ forget ! 8 refl $ forget ! 16 refl $ forget ! 18 refl $ forget ! 20 refl $ forget ! 22 refl $ forget ! 24 refl $ forget ! 26 refl $ forget ! 28 refl $ forget ! 30 refl $ forget ! 32 refl $ ends (out-with-memory 𝓤 H A mem run (answerTo (asking.backward (evaluated Spk (k .now)) (t .now) n x (lastReversed (t .now) n x))) m) (asked-back limit (evaluated Spk (k .now)) (t .now) n m x e1 (ltb-false i n e2)) is-0))))))))
 
     walk : ent 𝓤 (onEntry 𝓤 H A f.signature κs (q, (q′, tt)) a₀ at) (WpFn 𝓤 H (𝓣 .C) (𝓣 .Λ) code.function (kv ∷ tv ∷ vint w64 n ∷ mmy m ∷ que x ∷ []) Post)
     walk =
@@ -196,11 +196,11 @@ module _ {M : Type 1} (𝓤 : URA M) (H : Heap 𝓤) (A : Atoms 𝓤) (W : Given
         goes l₀ l₁ l₂ l₃ l₄ l₅ l₆ l₇ l₈ l₉ l₁₀ l₁₁ l₁₂ l₁₃ l₁₄ (isEarly limit n x) (ltb i n) refl refl)))))))))))))))
 
 module _ {M : Type 1} (𝓤 : URA M) (H : Heap 𝓤) (A : Atoms 𝓤) (W : Given 𝓤 H A) (mem : Memory → SProp 𝓤) (run : Routine → Fun 𝓤) (𝓣 : Tables 𝓤 H)
-    (known-table-len : Triple 𝓤 (𝓣 .C #table-len) (the-table-len 𝓤 H A mem run)) (known-is-early : Triple 𝓤 (𝓣 .C #is-early) (the-is-early 𝓤 H A mem run)) (known-early : Triple 𝓤 (𝓣 .C #early) (the-early 𝓤 H A mem run)) (known-choice : Triple 𝓤 (𝓣 .C #choice) (the-choice 𝓤 H A mem run)) (known-place-in : Triple 𝓤 (𝓣 .C #place-in) (the-place-in 𝓤 H A mem run)) (known-segment-at : Triple 𝓤 (𝓣 .C #segment-at) (the-segment-at 𝓤 H A mem run)) (known-after : Triple 𝓤 (𝓣 .C #after) (the-after 𝓤 H A mem run)) (known-forward : Triple 𝓤 (𝓣 .C #forward) (the-forward 𝓤 H A mem run)) (known-backward : Triple 𝓤 (𝓣 .C #backward) (the-backward 𝓤 H A mem run)) (known-unchanged : Triple 𝓤 (𝓣 .C #unchanged) (the-unchanged 𝓤 H A mem run)) where
+    (known-table-len : Triple 𝓤 (𝓣 .C #table-len) (the-table-len 𝓤 H A mem run)) (known-is-early : Triple 𝓤 (𝓣 .C #is-early) (the-is-early 𝓤 H A mem run)) (known-early : Triple 𝓤 (𝓣 .C #early) (the-early 𝓤 H A mem run)) (known-choice : Triple 𝓤 (𝓣 .C #choice) (the-choice 𝓤 H A mem run)) (known-place-in : Triple 𝓤 (𝓣 .C #place-in) (the-place-in 𝓤 H A mem run)) (known-segment-at : Triple 𝓤 (𝓣 .C #segment-at) (the-segment-at 𝓤 H A mem run)) (known-after : Triple 𝓤 (𝓣 .C #after) (the-after 𝓤 H A mem run)) (known-forward : Triple 𝓤 (𝓣 .C #forward) (the-forward 𝓤 H A mem run)) (known-backward : Triple 𝓤 (𝓣 .C #backward) (the-backward 𝓤 H A mem run)) (known-with-memory : Triple 𝓤 (𝓣 .C #with-memory) (the-with-memory 𝓤 H A mem run)) where
   walks : Walks 𝓤 H A f.ended stayed (WpFn 𝓤 H (𝓣 .C) (𝓣 .Λ) code.function) (f.clauses 𝓤 H A mem run)
   walks = walked 𝓤 H A f.ended stayed (f.clauses 𝓤 H A mem run) (WpFn 𝓤 H (𝓣 .C) (𝓣 .Λ) code.function) (λ κs. (slice-vals, (slice-vals, (uint-vals w64, ((λ c. mmy c ∷ []), ((λ c. que c ∷ []), tt))))))
       (λ κs. (shr-slice-tells (named 0) (κs .0) u8, (shr-slice-tells (named 1) (κs .1 .0) Seg, (uint-tells w64, (mmy-tells, (que-tells, tt))))))
-      (λ κs qs bounds a g are. via 𝓤 _ (fst∗ 𝓤 _ (emp 𝓤)) (walk 𝓤 H A W mem run (κs .0) (κs .1 .0) (qs .0) (qs .1 .0) (a .0) (a .1 .0) (a .1 .1 .0) (a .1 .1 .1 .0) (a .1 .1 .1 .1 .0) (are .0 .0 .1) (are .1 .0 .0 .1) (are .1 .1 .0) (are .1 .1 .1 .0) (are .1 .1 .1 .1 .0) 𝓣 known-table-len known-is-early known-early known-choice known-place-in known-segment-at known-after known-forward known-backward known-unchanged))
+      (λ κs qs bounds a g are. via 𝓤 _ (fst∗ 𝓤 _ (emp 𝓤)) (walk 𝓤 H A W mem run (κs .0) (κs .1 .0) (qs .0) (qs .1 .0) (a .0) (a .1 .0) (a .1 .1 .0) (a .1 .1 .1 .0) (a .1 .1 .1 .1 .0) (are .0 .0 .1) (are .1 .0 .0 .1) (are .1 .1 .0) (are .1 .1 .1 .0) (are .1 .1 .1 .1 .0) 𝓣 known-table-len known-is-early known-early known-choice known-place-in known-segment-at known-after known-forward known-backward known-with-memory))
 
   meets : Meets 𝓤 H A f.signature (WpFn 𝓤 H (𝓣 .C) (𝓣 .Λ) code.function) (f.spec 𝓤 H A mem run)
   meets =
@@ -222,4 +222,4 @@ state-spec 𝓤 H 𝓜 𝓖 𝓡 =
     (cited 𝓤 H (the-after 𝓤 H (𝓖 .A) (𝓜 .mem) (𝓡 .run)) 𝓜 𝓡 code.env #after d-after.routine code.calls-spk·Memory·after (t-after.met 𝓤 H 𝓜 𝓖 𝓡))
     (cited 𝓤 H (the-forward 𝓤 H (𝓖 .A) (𝓜 .mem) (𝓡 .run)) 𝓜 𝓡 code.env #forward d-forward.routine code.calls-spk·forward (t-forward.met 𝓤 H 𝓜 𝓖 𝓡))
     (cited 𝓤 H (the-backward 𝓤 H (𝓖 .A) (𝓜 .mem) (𝓡 .run)) 𝓜 𝓡 code.env #backward d-backward.routine code.calls-lent·backward (t-backward.met 𝓤 H 𝓜 𝓖 𝓡))
-    (cited 𝓤 H (the-unchanged 𝓤 H (𝓖 .A) (𝓜 .mem) (𝓡 .run)) 𝓜 𝓡 code.env #unchanged d-unchanged.routine code.calls-spk·unchanged (t-unchanged.met 𝓤 H 𝓜 𝓖 𝓡)))
+    (cited 𝓤 H (the-with-memory 𝓤 H (𝓖 .A) (𝓜 .mem) (𝓡 .run)) 𝓜 𝓡 code.env #with-memory d-with-memory.routine code.calls-spk·with-memory (t-with-memory.met 𝓤 H 𝓜 𝓖 𝓡)))

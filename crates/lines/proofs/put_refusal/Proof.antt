@@ -1,4 +1,4 @@
--- `lines::put_refusal` meets its contract: the word, the number and the detail, one behind the other. Assumes nothing.
+-- `lines::put_refusal` meets its contract: the word, the number and the detail, one after the other. Assumes nothing.
 use mathlib.Core.Path.{_≡_, ap, _∙_, subst}
 use mathlib.Core.List.{List, [], _∷_, _++_}
 use Prim.Native.Nat.{ℕ}

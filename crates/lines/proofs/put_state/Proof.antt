@@ -1,4 +1,4 @@
--- `lines::put_state` meets its contract: six numbers, one behind the other. Assumes nothing.
+-- `lines::put_state` meets its contract: six numbers, one after the other. Assumes nothing.
 use mathlib.Core.Path.{_≡_}
 use native.Mathlib.Omega.{arith}
 use borrow.Author.Needs.{needs}

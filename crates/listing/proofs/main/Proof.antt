@@ -1,4 +1,5 @@
 -- `listing::main` is safe: what was read lies within the buffer. Assumes nothing.
+use native.Mathlib.Omega.{arith}
 use Rattle.io.specs.Counts.{Counts}
 use Rattle.streams.proofs.Counted.{counted}
 use borrow.Author.Needs.{needs}
@@ -10,6 +11,17 @@ read : (c : tie.After-input) → Counts (c .input .given .0 .0) (c .before .befo
 read c =
     let r = c .before .before .before .read-standard in
     counted (r .result) (c .input .given .0 .0) (r .last .0) (c .input .given .1) (r .ensures)
+
+array-share-prefix-kernel : tie.Need-array-share-prefix-kernel
+array-share-prefix-kernel c = read (c .before .before) .0
+
+slice-aggregate-put-output-2 : tie.Need-slice-aggregate-put-output-2
+slice-aggregate-put-output-2 c = read (c .before .before .before) .1
+
+write-requires : tie.Need-write-requires
+write-requires c κs = let p = c .before .before .put-output in omega (arith, p .ensures .1, p .kept .0)
+
+-- ---- by search
 
 arg-count-requires : tie.Need-arg-count-requires
 arg-count-requires c κs = search needs
@@ -32,14 +44,14 @@ read-standard-requires c κs = search needs
 enum-known-input : tie.Need-enum-known-input
 enum-known-input c = search needs
 
-array-share-prefix-kernel : tie.Need-array-share-prefix-kernel
-array-share-prefix-kernel c = read (c .before) .0
+slice-aggregate-put-output : tie.Need-slice-aggregate-put-output
+slice-aggregate-put-output c = search needs
 
-slice-aggregate-list : tie.Need-slice-aggregate-list
-slice-aggregate-list c = read (c .before .before) .1
+put-output-requires : tie.Need-put-output-requires
+put-output-requires c κs = search needs
 
-list-requires : tie.Need-list-requires
-list-requires c κs = search needs
+slice-aggregate-write : tie.Need-slice-aggregate-write
+slice-aggregate-write c = search needs
 
 enum-told : tie.Need-enum-told
 enum-told c = search needs
@@ -61,9 +73,12 @@ main-spec =
     slice-aggregate-read-standard
     read-standard-requires
     enum-known-input
+    slice-aggregate-put-output
     array-share-prefix-kernel
-    slice-aggregate-list
-    list-requires
+    slice-aggregate-put-output-2
+    put-output-requires
+    slice-aggregate-write
+    write-requires
     enum-told
     returns-2
     returns-3)

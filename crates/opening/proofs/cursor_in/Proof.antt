@@ -1,6 +1,6 @@
 -- `opening::cursor_in` meets its contract: an answer for each way. Assumes nothing.
 use mathlib.Core.Path.{sym, ap}
-use Rattle.opening.specs.Planning.{cursorIn}
+use Rattle.opening.specs.Steps.{cursorIn}
 use borrow.Author.Needs.{needs}
 use Rattle.opening.proofs.cursor_in.Statement.{statement}
 use Rattle.opening.proofs.cursor_in.Tie as tie

@@ -1,6 +1,6 @@
 -- `opening::found_in` meets its contract: an answer for each way. Assumes nothing.
 use mathlib.Core.Path.{sym, ap}
-use Rattle.opening.specs.Planning.{foundIn}
+use Rattle.opening.specs.Steps.{foundIn}
 use borrow.Author.Needs.{needs}
 use Rattle.opening.proofs.found_in.Statement.{statement}
 use Rattle.opening.proofs.found_in.Tie as tie

@@ -3,7 +3,7 @@ use mathlib.Core.Path.{sym, ap, _∙_, subst}
 use Prim.Native.Nat.{ℕ, _≤_}
 use denote.Ref.{now}
 use Rattle.table.specs.Places.{lentLimit}
-use Rattle.opening.specs.Planning.{planOf}
+use Rattle.opening.specs.Steps.{planOf}
 use Rattle.table.proofs.Limits.{limit-most}
 use Rattle.opening.proofs.Planning.{plan-refused, plan-read}
 use borrow.Author.Needs.{needs}

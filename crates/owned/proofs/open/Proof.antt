@@ -1,11 +1,11 @@
--- `owned::open` meets its contract: the plan can be carried out, and what it comes to is the definition's. Assumes nothing.
+-- `owned::open` meets its contract: the plan can be carried out, and what it results in is the definition's. Assumes nothing.
 use mathlib.Core.Path.{_∙_, ap, sym, subst}
 use denote.Ref.{now}
 use Rattle.refusal.proofs.Told.{in-numbers}
 use Rattle.table.specs.Places.{tableLimit, emptyPlaces}
 use Rattle.opening.specs.declared.Plan.{Plan}
-use Rattle.opening.specs.Planning.{Fits, carriedOut}
-use Rattle.opening.specs.Paper.{openedTold}
+use Rattle.opening.specs.Steps.{Fits, carriedOut}
+use Rattle.opening.specs.Told.{openedTold}
 use Rattle.opening.proofs.Planned.{plan-ready}
 use Rattle.owned.specs.Owned.{openedBy}
 use Rattle.owned.proofs.Owning.{opened-told}

@@ -6,7 +6,7 @@ use Rattle.opening.specs.declared.Opened.{Opened}
 use Rattle.opening.specs.declared.Plan.{Plan}
 use Rattle.table.specs.Segments.{emptySegment}
 use Rattle.owned.specs.Owned.{openedBy}
-use Rattle.opening.specs.Planning.{Fits, carriedOut}
+use Rattle.opening.specs.Steps.{Fits, carriedOut}
 use Rattle.table.specs.Places.{emptyPlaces}
 use types.Part.{rep}
 use Rattle.lent.proofs.Owner.{arr, Arr-ty, arr-long, arr-lawful, arr-typed, repeat-tells, emptied, fills-own}

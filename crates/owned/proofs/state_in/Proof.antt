@@ -1,7 +1,7 @@
 -- `owned::state_in` meets its contract: a walk of its MIR, by hand: the table's array is lent to `lent`'s function, and taken back.
 -- Assumes nothing.
 use Rattle.lent.proofs.Walking.{ℕ, Lft, Share, ftrue, flft, fat, SProp, ent, emp, via, fst∗, Lfts, Fun, givenOf, tables, tablesOf, u8, yes, Is, pointee, owns, RefT, plain, sliceVal, ShrSlice, Room, slice-vals, shr-slice-tells, sliceTy, owned, nothing, Vals, onEntry, Meets, tripleOf, Triple, entered, cited, Stays, stay-none-slice, walkOf, goes-none-slice, Walks, ends-at, walked, walk-meets, stay-none, goes-none, Atoms, fullShare, URA, lit<, length, List, [], _∷_, refl, sym, ap, subst, _≡_, named, erased, imm, tyRef, Val, Memory, Routine, Heap, WpFn, Tables, WpFn-mono, FmC, fmOf, Given, ‵, _⊛_, _$_, _∵_, !, qed, by, move, suffices, frame, done, ⋆, keep, split, join, rewrite, fsplit, fjoin, agg, look, init, forget, stop, from, load, of-opd, assigns, returns, enter, alloc1, alloc0, params1, pass1, pass0, free1, free0, lit, and-then, no-more, land, addr}
-use Rattle.spk.specs.Paper.{askedTold}
+use Rattle.spk.specs.Told.{askedTold}
 use Rattle.lent.proofs.Telling.{tells}
 use Rattle.spk.specs.declared.Asked.{Asked}
 use Rattle.spk.specs.declared.Memory.{Memory as Remembered}

@@ -4,7 +4,7 @@ use mathlib.Core.Bool.{Bool, cond}
 use Rattle.table.specs.declared.Choice.{Choice}
 use Rattle.table.specs.declared.Choice.the-variants.{At, Nothing}
 use Rattle.table.specs.Choosing.{orElse}
-use Rattle.pck.specs.Finding.{bodyAt}
+use Rattle.pck.specs.Steps.{bodyAt}
 use borrow.Author.Needs.{needs}
 use Rattle.pck.proofs.or_body.Statement.{statement}
 use Rattle.pck.proofs.or_body.Tie as tie

@@ -9,7 +9,7 @@ use Rattle.refusal.proofs.Told.{in-numbers}
 use Rattle.cheby.specs.Cheby.{recordFor}
 use Rattle.cheby.proofs.Record.{refused-where}
 use Rattle.segment.specs.Kinds.{kindWith}
-use Rattle.segment.specs.Paper.{evaluatedTold}
+use Rattle.segment.specs.Told.{evaluatedTold}
 use Rattle.segment.specs.declared.Form.the-variants.{Two, Three}
 use Rattle.segment.proofs.Tests.{is-type}
 use Rattle.segment.proofs.Forms.{form-two}

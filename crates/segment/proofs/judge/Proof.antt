@@ -4,14 +4,14 @@ use Rattle.segment.specs.declared.Judged.{Judged}
 use Rattle.segment.specs.declared.Judged.the-variants.{Accepted}
 use Rattle.segment.specs.declared.Kind.the-variants.{Unsupported}
 use Rattle.segment.specs.Malformed.{found}
-use Rattle.segment.specs.Paper.{judgedTold}
+use Rattle.segment.specs.Told.{judgedTold}
 use Prim.Native.Nat.{ℕ}
 use mathlib.Core.Path.{_≡_, sym, ap, _∙_}
 use borrow.Author.Needs.{needs}
 use Rattle.segment.proofs.judge.Statement.{statement}
 use Rattle.segment.proofs.judge.Tie as tie
 
--- in the paper's numbers too, whatever number the segment has
+-- in the numbers of RULES, "Refusals" too, whatever number the segment has
 in-numbers : {x y : Judged} → x ≡ y → (x ≡ y) × ((i : ℕ) → judgedTold i x ≡ judgedTold i y)
 in-numbers e = (e, λ i. ap (judgedTold i) e)
 

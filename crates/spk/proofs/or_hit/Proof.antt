@@ -3,7 +3,7 @@ use mathlib.Core.Bool.{Bool, cond}
 use Rattle.table.specs.declared.Choice.{Choice}
 use Rattle.table.specs.declared.Choice.the-variants.{At, Nothing}
 use Rattle.table.specs.Choosing.{orElse}
-use Rattle.spk.specs.Finding.{hitAt}
+use Rattle.spk.specs.Steps.{hitAt}
 -- `spk::or_hit` meets its contract: an answer for each way. Assumes nothing.
 use mathlib.Core.Path.{_∙_, sym, ap}
 use borrow.Author.Needs.{needs}

@@ -9,14 +9,14 @@ use Rattle.spk.proofs.start_of.Tie as tie
 leg-requires : tie.Need-leg-requires
 leg-requires c κs = search needs
 
-is-home-requires : tie.Need-is-home-requires
-is-home-requires c κs = search needs
+is-zero-requires : tie.Need-is-zero-requires
+is-zero-requires c κs = search needs
 
 returns : tie.Need-returns
-returns c = begin-at _ _ true (c .before .before .before .leg .ensures) (sym (c .before .before .is-home .ensures) ∙ c .before .if1 .taken)
+returns c = begin-at _ _ true (c .before .before .before .leg .ensures) (sym (c .before .before .is-zero .ensures) ∙ c .before .if1 .taken)
 
 returns-2 : tie.Need-returns-2
-returns-2 c = begin-at _ _ false (c .before .before .leg .ensures) (sym (c .before .is-home .ensures) ∙ c .if1 .left)
+returns-2 c = begin-at _ _ false (c .before .before .leg .ensures) (sym (c .before .is-zero .ensures) ∙ c .if1 .left)
 
 pub start-of-spec : {M : Type 1} → statement M
-start-of-spec = tie.close (tie.spec leg-requires is-home-requires returns returns-2)
+start-of-spec = tie.close (tie.spec leg-requires is-zero-requires returns returns-2)

@@ -9,11 +9,11 @@ use Rattle.spk.proofs.turned.Tie as tie
 turned-requires : tie.Need-turned-requires
 turned-requires c κs = search needs
 
-unchanged-requires : tie.Need-unchanged-requires
-unchanged-requires c κs = search needs
+with-memory-requires : tie.Need-with-memory-requires
+with-memory-requires c κs = search needs
 
 returns : tie.Need-returns
-returns c = c .unchanged .ensures ∙ asked-eq _ _ (c .before .turned .ensures) refl
+returns c = c .with-memory .ensures ∙ asked-eq _ _ (c .before .turned .ensures) refl
 
 pub turned-spec : {M : Type 1} → statement M
-turned-spec = tie.close (tie.spec turned-requires unchanged-requires returns)
+turned-spec = tie.close (tie.spec turned-requires with-memory-requires returns)

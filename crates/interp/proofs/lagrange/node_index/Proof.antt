@@ -1,4 +1,4 @@
--- `interp::lagrange::node_index` meets its contract. The loop's invariant: from i the search comes to what it comes to from 0. Assumes nothing.
+-- `interp::lagrange::node_index` meets its contract. The loop's invariant: from i the search finds what it finds from 0. Assumes nothing.
 use Prim.Native.Nat.{_≤_, _-_}
 use mathlib.Core.Path.{refl}
 use Rattle.bits.specs.F64.{at}

@@ -1,0 +1,4 @@
+-- What the contracts of `admission` cite.
+pub mod Order
+pub mod When
+pub mod Told

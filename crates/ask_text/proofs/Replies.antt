@@ -1,0 +1,116 @@
+-- What the plan replies is the text of the definitions: through the index that it leaves a run is that without one; its table is the opening's; and a question
+-- asked as it stands is a plain one. Assumes nothing.
+use mathlib.Core.Path.{_≡_, refl, sym, ap, ap₂, _∙_}
+use mathlib.Core.Bool.{Bool, true, false, cond, _||_}
+use mathlib.Core.List.{List, _∷_}
+use Prim.Native.Nat.{ℕ, zero, suc}
+use lib.Dec.{eqb, ltb}
+use lib.ListN.{length}
+use Rattle.refusal.specs.declared.Refusal.{Refusal}
+use Rattle.refusal.specs.declared.Refusal.the-variants.{InputTooLong}
+use Rattle.streams.specs.Input.{inputLimit}
+use Rattle.daf.specs.declared.Cursor.{Cursor}
+use Rattle.daf.specs.declared.Family.the-variants.{Spk}
+use Rattle.frame.specs.Frame.{Matrix}
+use Rattle.frame.specs.declared.NaifFrame.the-variants.{EclipJ2000}
+use Rattle.segment.specs.declared.Segment.{Segment}
+use Rattle.segment.specs.Evaluating.{evaluated}
+use Rattle.table.specs.Places.{lentLimit}
+use Rattle.opening.specs.declared.Plan.{Plan}
+use Rattle.opening.specs.declared.Plan.the-variants.{Fill, Refuse}
+use Rattle.chain.specs.Step.{Evaluation}
+use Rattle.spk.specs.declared.Answer.{Answer}
+use Rattle.spk.specs.declared.Memory.{Memory}
+use Rattle.spk.specs.declared.Memory.the-variants.{Blank}
+use Rattle.spk.specs.declared.Wanted.{Wanted}
+use Rattle.spk.specs.declared.Wanted.the-variants.{AsItStands, In}
+use Rattle.spk.specs.Asking as asking
+use Rattle.spk.specs.Runs.{Asking, Plain, InFrame, run}
+use Rattle.indexed.specs.Opening.{indexedBy}
+use Rattle.indexed.proofs.Asking.{no-index-run}
+use Rattle.indexed.proofs.Opening.{planned-right}
+use Rattle.lines.specs.Text.{refusalText}
+use Rattle.admission.specs.Order.{tooLong, anyTooLong, matrixSize, runPlan, planFor}
+use Rattle.admission.proofs.Ways.{plan-replies, table-of-plan, plan-printed}
+use Rattle.ask_text.specs.Records.{questionSize, questionMark, questionAt, rowsOf}
+use Rattle.ask_text.specs.Text.{askingsFrom, questionsIn, answersText, tableIn, countIn, answersOf, askText, askOutput}
+use Rattle.ask_text.specs.Steps.{turnedFrom, tableBy, answersBy, plannedText}
+
+-- ---- through the index that a plan left
+pub without-index : (kernel asked : List ℕ) (n : ℕ) (c : Cursor) (ix : List ℕ) (wanted : Wanted) (rot : Matrix)
+    → answersText 0 (answersBy kernel asked (Fill n c) ix wanted rot (questionsIn asked)) ≡ plannedText kernel asked (Fill n c) wanted rot
+unfolding plannedText
+without-index kernel asked n c ix wanted rot =
+    let segs = tableBy kernel (Fill n c) in
+    ap (answersText 0) (no-index-run lentLimit (evaluated Spk kernel) segs n (indexedBy (Fill n c) segs ix) (planned-right n c segs ix) Blank (turnedFrom wanted rot asked 0 (questionsIn asked)))
+
+-- ---- what is asked
+module _ (limit : ℕ) (ev : Evaluation) (segs : List Segment) (n : ℕ) (asked matrix : List ℕ) where
+  -- without a matrix each question is asked as it stands, which turns nothing
+  plainly : (rot : Matrix) → eqb (length matrix) matrixSize ≡ false → (m : Memory) (i many : ℕ)
+      → run limit ev segs n m (turnedFrom AsItStands rot asked i many) ≡ run limit ev segs n m (askingsFrom asked matrix i many)
+  unfolding run turnedFrom askingsFrom
+  plainly rot e m i zero = refl
+  plainly rot e m i (suc many) =
+      let now = asking.asked limit ev segs n m (questionAt asked i) in
+      ap (λ (l : List Answer). now .answer ∷ l) (plainly rot e (now .memory) (suc i) many)
+      ∙ ap (λ (b : Bool). run limit ev segs n m (cond b (InFrame (questionAt asked i) (In EclipJ2000) (rowsOf matrix)) (Plain (questionAt asked i)) ∷ askingsFrom asked matrix (suc i) many)) (sym e)
+
+-- with one, in ECLIPJ2000
+turned : (asked matrix : List ℕ) → eqb (length matrix) matrixSize ≡ true → (i many : ℕ) → turnedFrom (In EclipJ2000) (rowsOf matrix) asked i many ≡ askingsFrom asked matrix i many
+unfolding turnedFrom askingsFrom
+turned asked matrix e i zero = refl
+turned asked matrix e i (suc many) =
+    ap₂ (λ (a : Asking) (l : List Asking). a ∷ l)
+    (ap (λ (b : Bool). cond b (InFrame (questionAt asked i) (In EclipJ2000) (rowsOf matrix)) (Plain (questionAt asked i))) (sym e)) (turned asked matrix e (suc i) many)
+
+-- ---- the text
+module _ (kernel asked matrix : List ℕ) (wanted : Wanted) (rot : Matrix) where
+  abbrev ask-all : List Segment → List Answer
+  ask-all segs = run lentLimit (evaluated Spk kernel) segs (countIn kernel) Blank (turnedFrom wanted rot asked 0 (questionsIn asked))
+
+  by-plan : ask-all (tableIn kernel) ≡ answersOf kernel asked matrix
+      → plannedText kernel asked (runPlan Spk lentLimit questionSize questionMark kernel asked) wanted rot ≡ askText kernel asked matrix
+  unfolding askText plannedText tableIn
+  by-plan same =
+      plan-replies Spk lentLimit questionSize questionMark kernel asked refusalText (answersText 0 (answersOf kernel asked matrix)) (λ (p : Plan). plannedText kernel asked p wanted rot) (λ r. refl)
+      (λ none. ap (λ (segs : List Segment). answersText 0 (ask-all segs)) (table-of-plan Spk lentLimit kernel none) ∙ ap (answersText 0) same)
+
+pub turned-text : (kernel asked matrix : List ℕ) → eqb (length matrix) matrixSize ≡ true
+    → plannedText kernel asked (runPlan Spk lentLimit questionSize questionMark kernel asked) (In EclipJ2000) (rowsOf matrix) ≡ askText kernel asked matrix
+turned-text kernel asked matrix e =
+    by-plan kernel asked matrix (In EclipJ2000) (rowsOf matrix)
+    (ap (run lentLimit (evaluated Spk kernel) (tableIn kernel) (countIn kernel) Blank) (turned asked matrix e 0 (questionsIn asked)))
+
+pub plain-text : (kernel asked matrix : List ℕ) (rot : Matrix) → eqb (length matrix) matrixSize ≡ false
+    → plannedText kernel asked (runPlan Spk lentLimit questionSize questionMark kernel asked) AsItStands rot ≡ askText kernel asked matrix
+plain-text kernel asked matrix rot e =
+    by-plan kernel asked matrix AsItStands rot (plainly lentLimit (evaluated Spk kernel) (tableIn kernel) (countIn kernel) asked matrix rot e Blank 0 (questionsIn asked))
+
+-- ---- 18 before it
+pub output-text : (kernel asked matrix : List ℕ) (b : Bool) → anyTooLong kernel asked matrix ≡ b
+    → askOutput kernel asked matrix ≡ cond b (refusalText InputTooLong) (askText kernel asked matrix)
+unfolding askOutput
+output-text kernel asked matrix b e = ap (λ (t : Bool). cond t (refusalText InputTooLong) (askText kernel asked matrix)) e
+
+-- ---- the exactly-when theorems of `admission` are about the plan with 18 before it: where it refuses, the output is its refusal's line alone
+module _ (kernel asked matrix : List ℕ) where
+  abbrev printed : Plan → List ℕ
+  printed (Refuse r) = refusalText r
+  printed (Fill n c) = answersText 0 (answersOf kernel asked matrix)
+
+  -- a matrix that is too long is 18 (`matrix-18`)
+  module _ (fits : ltb inputLimit (length matrix) ≡ false) where
+    output-printed : askOutput kernel asked matrix ≡ printed (planFor Spk lentLimit questionSize questionMark kernel asked)
+    unfolding askOutput askText
+    output-printed =
+        ap (λ (b : Bool). cond (b || tooLong kernel asked) (refusalText InputTooLong) (askText kernel asked matrix)) fits
+        ∙ plan-printed Spk lentLimit questionSize questionMark kernel asked printed
+
+    -- THEOREM: the line of the refusal that the plan gives, alone
+    pub output-refused : (r : Refusal) → planFor Spk lentLimit questionSize questionMark kernel asked ≡ Refuse r → askOutput kernel asked matrix ≡ refusalText r
+    output-refused r e = output-printed ∙ ap printed e
+
+    -- THEOREM: where it fills, a line for each answer
+    pub output-answered : (n : ℕ) (c : Cursor) → planFor Spk lentLimit questionSize questionMark kernel asked ≡ Fill n c → askOutput kernel asked matrix ≡ answersText 0 (answersOf kernel asked matrix)
+    output-answered n c e = output-printed ∙ ap printed e

@@ -1,3 +1,0 @@
--- What the contracts of `asking` cite: the records, and the lines.
-pub mod Records
-pub mod Lines

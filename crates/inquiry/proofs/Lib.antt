@@ -1,5 +1,0 @@
--- Laws that belong to no one function.
-pub mod TwoAnswers
-pub mod Ways
-pub mod Exactly
-pub mod MatrixFile

@@ -1,4 +1,0 @@
--- What the contracts of `inquiry` cite.
-pub mod Order
-pub mod When
-pub mod Paper

@@ -1,4 +1,0 @@
--- Laws that the proofs cite.
-pub mod Calls
-pub mod Planned
-pub mod Exactly

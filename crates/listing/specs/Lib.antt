@@ -1,4 +1,0 @@
--- What the contracts of `listing` cite.
-pub mod Lines
-pub mod Plan
-pub mod When

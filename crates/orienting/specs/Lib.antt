@@ -1,3 +1,0 @@
--- What the contracts of `orienting` cite: the records, and the lines.
-pub mod Records
-pub mod Lines

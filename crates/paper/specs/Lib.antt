@@ -1,2 +1,0 @@
--- Document 01's worked numbers.
-pub mod Paper

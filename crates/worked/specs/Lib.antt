@@ -1,0 +1,2 @@
+-- The worked numbers of the rules.
+pub mod Worked
