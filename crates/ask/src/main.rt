@@ -18,23 +18,22 @@ fn explain() {
 }
 
 // Writes the whole output, at once.
-fn print(kernel: &[u8], asked: &[u8], matrix: &[u8])
+fn print(kernel: &[u8], asked: &[u8], turned: bool, matrix: &[u8])
     requires { ⌜ length (now asked) ≤ inputLimit + 1 ⌝ }
 {
     let mut out = [0u8; ask_text::ROOM];
-    let end = ask_text::put_output(&mut out, kernel, asked, matrix);
+    let end = ask_text::put_output(&mut out, kernel, asked, turned, matrix);
     streams::write(&out, end);
 }
 
-// The same with a matrix file, where it is one.
+// The same with a matrix file. Where it is none the output is empty, and why is told on the error output.
 fn print_turned(kernel: &[u8], asked: &[u8], matrix: &[u8])
     requires { ⌜ length (now asked) ≤ inputLimit + 1 ⌝ }
 {
+    print(kernel, asked, true, matrix);
     let m = admission::matrix_for(kernel, asked, matrix);
-    match m {
-        Matrix::TooLong => print(kernel, asked, matrix),
-        Matrix::Unfit => streams::complain(b"MATRIX: not 72 bytes long\n"),
-        Matrix::Taken => print(kernel, asked, matrix),
+    if let Matrix::Unfit = m {
+        streams::complain(b"MATRIX: not 72 bytes long\n");
     }
 }
 
@@ -57,7 +56,7 @@ fn with_questions(kernel: &[u8], turned: bool) {
         if turned {
             with_matrix(kernel, &buf[..n]);
         } else {
-            print(kernel, &buf[..n], b"");
+            print(kernel, &buf[..n], false, b"");
         }
     }
 }

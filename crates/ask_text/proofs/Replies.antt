@@ -2,7 +2,7 @@
 -- asked as it stands is a plain one. Assumes nothing.
 use mathlib.Core.Path.{_≡_, refl, sym, ap, ap₂, _∙_}
 use mathlib.Core.Bool.{Bool, true, false, cond, _||_}
-use mathlib.Core.List.{List, _∷_}
+use mathlib.Core.List.{List, [], _∷_}
 use Prim.Native.Nat.{ℕ, zero, suc}
 use lib.Dec.{eqb, ltb}
 use lib.ListN.{length}
@@ -33,7 +33,7 @@ use Rattle.lines.specs.Text.{refusalText}
 use Rattle.admission.specs.Order.{tooLong, anyTooLong, matrixSize, runPlan, planFor}
 use Rattle.admission.proofs.Ways.{plan-replies, table-of-plan, plan-printed}
 use Rattle.ask_text.specs.Records.{questionSize, questionMark, questionAt, rowsOf}
-use Rattle.ask_text.specs.Text.{askingsFrom, questionsIn, answersText, tableIn, countIn, answersOf, askText, askOutput}
+use Rattle.ask_text.specs.Text.{askingsFrom, questionsIn, answersText, tableIn, countIn, answersOf, askText, unfit, askOutput}
 use Rattle.ask_text.specs.Steps.{turnedFrom, tableBy, answersBy, plannedText}
 
 -- ---- through the index that a plan left
@@ -87,30 +87,35 @@ pub plain-text : (kernel asked matrix : List ℕ) (rot : Matrix) → eqb (length
 plain-text kernel asked matrix rot e =
     by-plan kernel asked matrix AsItStands rot (plainly lentLimit (evaluated Spk kernel) (tableIn kernel) (countIn kernel) asked matrix rot e Blank 0 (questionsIn asked))
 
--- ---- 18 before it
-pub output-text : (kernel asked matrix : List ℕ) (b : Bool) → anyTooLong kernel asked matrix ≡ b
-    → askOutput kernel asked matrix ≡ cond b (refusalText InputTooLong) (askText kernel asked matrix)
-unfolding askOutput
-output-text kernel asked matrix b e = ap (λ (t : Bool). cond t (refusalText InputTooLong) (askText kernel asked matrix)) e
+-- ---- 18 before it, then a matrix file that is none
+module _ (kernel asked : List ℕ) (turned : Bool) (matrix : List ℕ) where
+  pub output-long : anyTooLong kernel asked matrix ≡ true → askOutput kernel asked turned matrix ≡ refusalText InputTooLong
+  unfolding askOutput
+  output-long e = rw e
+
+  pub output-short : (b : Bool) → anyTooLong kernel asked matrix ≡ false → unfit turned matrix ≡ b
+      → askOutput kernel asked turned matrix ≡ cond b [] (askText kernel asked matrix)
+  unfolding askOutput
+  output-short b e f = rw (e, f)
 
 -- ---- the exactly-when theorems of `admission` are about the plan with 18 before it: where it refuses, the output is its refusal's line alone
-module _ (kernel asked matrix : List ℕ) where
+module _ (kernel asked : List ℕ) (turned : Bool) (matrix : List ℕ) where
   abbrev printed : Plan → List ℕ
   printed (Refuse r) = refusalText r
   printed (Fill n c) = answersText 0 (answersOf kernel asked matrix)
 
-  -- a matrix that is too long is 18 (`matrix-18`)
-  module _ (fits : ltb inputLimit (length matrix) ≡ false) where
-    output-printed : askOutput kernel asked matrix ≡ printed (planFor Spk lentLimit questionSize questionMark kernel asked)
+  -- a matrix file that is too long is 18 (`matrix-18`), and with one that is none nothing is printed
+  module _ (fits : ltb inputLimit (length matrix) ≡ false) (fit : unfit turned matrix ≡ false) where
+    output-printed : askOutput kernel asked turned matrix ≡ printed (planFor Spk lentLimit questionSize questionMark kernel asked)
     unfolding askOutput askText
     output-printed =
-        ap (λ (b : Bool). cond (b || tooLong kernel asked) (refusalText InputTooLong) (askText kernel asked matrix)) fits
+        ap₂ (λ (b u : Bool). cond (b || tooLong kernel asked) (refusalText InputTooLong) (cond u [] (askText kernel asked matrix))) fits fit
         ∙ plan-printed Spk lentLimit questionSize questionMark kernel asked printed
 
     -- THEOREM: the line of the refusal that the plan gives, alone
-    pub output-refused : (r : Refusal) → planFor Spk lentLimit questionSize questionMark kernel asked ≡ Refuse r → askOutput kernel asked matrix ≡ refusalText r
+    pub output-refused : (r : Refusal) → planFor Spk lentLimit questionSize questionMark kernel asked ≡ Refuse r → askOutput kernel asked turned matrix ≡ refusalText r
     output-refused r e = output-printed ∙ ap printed e
 
     -- THEOREM: where it fills, a line for each answer
-    pub output-answered : (n : ℕ) (c : Cursor) → planFor Spk lentLimit questionSize questionMark kernel asked ≡ Fill n c → askOutput kernel asked matrix ≡ answersText 0 (answersOf kernel asked matrix)
+    pub output-answered : (n : ℕ) (c : Cursor) → planFor Spk lentLimit questionSize questionMark kernel asked ≡ Fill n c → askOutput kernel asked turned matrix ≡ answersText 0 (answersOf kernel asked matrix)
     output-answered n c e = output-printed ∙ ap printed e

@@ -1,6 +1,6 @@
 -- The whole output of `ask`, as a list of ASCII codes: RULES, "Programs".
 use Prim.Native.Nat.{ℕ, zero, suc, _/_}
-use mathlib.Core.Bool.{cond}
+use mathlib.Core.Bool.{Bool, cond, not, _&&_}
 use mathlib.Core.List.{List, [], _∷_, _++_}
 use lib.Dec.{eqb}
 use lib.ListN.{length}
@@ -63,10 +63,14 @@ runCases kernel asked = casesOf Spk lentLimit questionSize questionMark kernel a
 unfoldable pub askText : List ℕ → List ℕ → List ℕ → List ℕ
 askText kernel asked matrix = firstOf (runCases kernel asked) refusalText (answersText 0 (answersOf kernel asked matrix))
 
--- What the program prints: 18 of any of its files comes first.
-unfoldable pub askOutput : List ℕ → List ℕ → List ℕ → List ℕ
-askOutput kernel asked matrix =
-    firstOf (case (anyTooLong kernel asked matrix) InputTooLong ∷ []) refusalText (askText kernel asked matrix)
+-- A matrix file is given (`turned`), and it is none: it has another length than 72 bytes.
+abbrev pub unfit : Bool → List ℕ → Bool
+unfit turned matrix = turned && not (eqb (length matrix) matrixSize)
+
+-- What the program prints: 18 of any of its files comes first; then nothing, where a matrix file is given that is none.
+unfoldable pub askOutput : List ℕ → List ℕ → Bool → List ℕ → List ℕ
+askOutput kernel asked turned matrix =
+    firstOf (case (anyTooLong kernel asked matrix) InputTooLong ∷ []) refusalText (cond (unfit turned matrix) [] (askText kernel asked matrix))
 
 -- Room for every reply to a file of so many bytes: a line for each question, or a refusal's.
 abbrev pub askRoom : ℕ → ℕ

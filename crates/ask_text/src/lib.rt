@@ -14,7 +14,7 @@ ghost use Rattle.lines.specs.Room.{capped};
 ghost use Rattle.admission.specs.Order.{runPlan, openedFor};
 ghost use Rattle.ask_text.specs.Records.{questionSize, questionMark, questionAt, rowsOf};
 ghost use Rattle.ask_text.specs.Lines.{wordLine, namedLine, answerText, wordRoom, answerRoom};
-ghost use Rattle.ask_text.specs.Text.{answersText, askText, askOutput, askRoom};
+ghost use Rattle.ask_text.specs.Text.{answersText, askText, unfit, askOutput, askRoom};
 ghost use Rattle.ask_text.specs.Steps.{turnedFrom, answersBy, plannedText};
 use daf::Family;
 use frame::NaifFrame;
@@ -276,15 +276,24 @@ pub fn put_text(out: &mut [u8], kernel: &[u8], asked: &[u8], matrix: &[u8]) -> u
     }
 }
 
-// Puts what the program prints: 18 where a file is over its limit, else that reply.
-pub fn put_output(out: &mut [u8], kernel: &[u8], asked: &[u8], matrix: &[u8]) -> usize
+// A matrix file is given, and it is none.
+fn is_unfit(turned: bool, matrix: &[u8]) -> bool
+    ensures { λ r. ⌜ r ≡ unfit turned (now (matrix .entry)) ⌝ }
+{
+    turned && matrix.len() != admission::MATRIX
+}
+
+// Puts what the program prints: 18 where a file is over its limit; nothing where a matrix file is given that is none; else that reply.
+pub fn put_output(out: &mut [u8], kernel: &[u8], asked: &[u8], turned: bool, matrix: &[u8]) -> usize
     requires { ⌜ askRoom (length (now asked)) ≤ length (now out) ⌝ }
-    ensures { λ r. ⌜ Written (now (out .entry)) 0 (askOutput (now (kernel .entry)) (now (asked .entry)) (now (matrix .entry))) (now (out .exit)) r ⌝ }
+    ensures { λ r. ⌜ Written (now (out .entry)) 0 (askOutput (now (kernel .entry)) (now (asked .entry)) turned (now (matrix .entry))) (now (out .exit)) r ⌝ }
     ensures { λ r. ⌜ r ≤ askRoom (length (now (asked .entry))) ⌝ }
 {
     if admission::any_over(kernel, asked, matrix) {
-        lines::put_refusal(out, 0, Refusal::InputTooLong)
-    } else {
-        put_text(out, kernel, asked, matrix)
+        return lines::put_refusal(out, 0, Refusal::InputTooLong);
     }
+    if is_unfit(turned, matrix) {
+        return 0;
+    }
+    put_text(out, kernel, asked, matrix)
 }

@@ -5,15 +5,15 @@
 --     same-asking   a question is read from its own record alone
 use Prim.Native.Nat.{ℕ, zero, suc, _+_, _*_, _<_, _≤_}
 use mathlib.Core.Path.{_≡_, refl, sym, ap, ap₂, _∙_, subst}
-use mathlib.Core.Bool.{Bool, true, false, cond, _||_}
+use mathlib.Core.Bool.{Bool, true, false, cond, not, _||_}
 use mathlib.Core.Logic.{_⊎_, inl, inr, ⊎-elim}
 use mathlib.Core.List.{List, [], _∷_, _++_, map}
 use native.Mathlib.Omega.{arith}
-use borrow.Author.Tests.{lt-ltb, le-ltb}
+use borrow.Author.Tests.{lt-ltb, le-ltb, eq-eqb, ne-eqb}
 use lib.Dec.{eqb, ltb}
 use lib.ListN.{length, getD, length-replicate}
 use Rattle.bits.specs.Bytes.{le32, le64, signed32, doubleOf}
-use Rattle.bits.proofs.Tests.{by-test, or-left, or-right, or-none}
+use Rattle.bits.proofs.Tests.{by-test, and-no, and-both, or-left, or-right, or-none}
 use Rattle.refusal.specs.declared.Refusal.the-variants.{InputTooLong}
 use Rattle.refusal.specs.Order.{Case, firstOf, First, None, given}
 use Rattle.refusal.proofs.Exactly.{given-where, answer-where}
@@ -58,7 +58,7 @@ use Rattle.orient_text.specs.Text as orient
 use Rattle.listing_text.specs.Lines.{markText, headText, spanText, segmentText, countText}
 use Rattle.listing_text.specs.Text as listing
 use Rattle.demands.specs.Demands.{LentAs, SameDoubles}
-use Rattle.demands.specs.Outputs.{RefusalAlone, SameRecord, AskAccepted, alone, aloneAt, AskText, AskLines, AskRefused, AskInterleaving, AskLineStays, AskOwnBytes, AskOutput, OrientLines, OrientRefused, OrientInterleaving, OrientLineStays, OrientOutput, listingLine, ListingLines, ListingRefused, ListingOutput}
+use Rattle.demands.specs.Outputs.{RefusalAlone, SameRecord, AskAccepted, alone, aloneAt, AskText, AskLines, AskRefused, AskInterleaving, AskLineStays, AskOwnBytes, AllShort, AskOutput, OrientLines, OrientRefused, OrientInterleaving, OrientLineStays, OrientOutput, listingLine, ListingLines, ListingRefused, ListingOutput}
 use Rattle.demands.proofs.Lent.{marked-right, agrees}
 
 -- ---- a refused run
@@ -231,11 +231,22 @@ neither-long kernel file h l = or-none _ _ (le-ltb inputLimit (length kernel) h)
 
 pub ask-output : AskOutput
 unfolding ask.askOutput
-ask-output kernel file matrix = (
-  λ long. by-length _ true (ask.askText kernel file matrix) (one long),
-  λ h l m. by-length _ false (ask.askText kernel file matrix) (or-none _ _ (le-ltb inputLimit (length matrix) m) (neither-long kernel file h l)),
+ask-output kernel file turned matrix = (
+  λ long. by-length _ true (cond (ask.unfit turned matrix) [] (ask.askText kernel file matrix)) (one long),
+  λ s given none. by-length _ false (cond (ask.unfit turned matrix) [] (ask.askText kernel file matrix)) (all-short s) ∙ fitted true (and-both turned _ given (ap not (ne-eqb _ _ none))),
+  λ s fits. by-length _ false (cond (ask.unfit turned matrix) [] (ask.askText kernel file matrix)) (all-short s) ∙ fitted false (⊎-elim (λ plain. sym (and-no turned _ plain) ∙ plain) (λ h. sized turned (eq-eqb _ _ h)) fits),
 )
   where
+    all-short : AllShort kernel file matrix → (ltb inputLimit (length matrix) || tooLong kernel file) ≡ false
+    all-short s = or-none _ _ (le-ltb inputLimit (length matrix) (s .matrix-fits)) (neither-long kernel file (s .kernel-fits) (s .file-fits))
+
+    fitted : (b : Bool) → ask.unfit turned matrix ≡ b → cond (ask.unfit turned matrix) [] (ask.askText kernel file matrix) ≡ cond b [] (ask.askText kernel file matrix)
+    fitted b e = ap (λ (u : Bool). cond u [] (ask.askText kernel file matrix)) e
+
+    sized : (t : Bool) → eqb (length matrix) matrixSize ≡ true → ask.unfit t matrix ≡ false
+    sized true e = ap not e
+    sized false e = refl
+
     one : (inputLimit < length kernel) ⊎ ((inputLimit < length file) ⊎ (inputLimit < length matrix)) → (ltb inputLimit (length matrix) || tooLong kernel file) ≡ true
     one = ⊎-elim (λ h. or-right (ltb inputLimit (length matrix)) _ (either-long kernel file (inl h)))
         (⊎-elim (λ h. or-right (ltb inputLimit (length matrix)) _ (either-long kernel file (inr h))) (λ h. or-left _ (tooLong kernel file) (lt-ltb inputLimit (length matrix) h)))

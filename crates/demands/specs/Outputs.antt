@@ -2,8 +2,9 @@
 -- `ask`, `orientOutput` of `orient`, `listingOutput` of `listing`. A text is divided into lines at its newlines, and line i is counted from 0 (`Lined`).
 use Prim.Native.Nat.{ℕ, zero, suc, _+_, _*_, _<_, _≤_}
 use mathlib.Core.Path.{_≡_}
+use mathlib.Core.Bool.{Bool, true, false}
 use mathlib.Core.Logic.{_⊎_}
-use mathlib.Core.List.{List, map}
+use mathlib.Core.List.{List, [], map}
 use lib.ListN.{length, getD}
 use Rattle.refusal.specs.declared.Refusal.the-variants.{InputTooLong}
 use Rattle.refusal.specs.Order.{Case, First, None, given}
@@ -20,6 +21,7 @@ use Rattle.pck.specs.declared.Oriented.{Oriented}
 use Rattle.lines.specs.Text.{refusalText}
 use Rattle.lines.specs.Lines.{lineAt, Lined}
 use Rattle.streams.specs.Input.{inputLimit}
+use Rattle.admission.specs.Order.{matrixSize}
 use Rattle.ask_text.specs.Records as ask-records
 use Rattle.ask_text.specs.Lines.{answerText}
 use Rattle.ask_text.specs.Text as ask
@@ -90,11 +92,19 @@ AskOwnBytes =
     (λ s. SameDoubles kernel kernel' (seg (ask.tableIn kernel) s))
     → lineAt (ask.askText kernel file matrix) i ≡ lineAt (ask.askText kernel' file matrix) i
 
--- **18.** Where a file is too long the program prints the line of 18 alone, else that text.
+-- Of the three files none is too long.
+pub record AllShort (kernel file matrix : List ℕ) : Type 0 where
+  pub kernel-fits : length kernel ≤ inputLimit
+  pub file-fits : length file ≤ inputLimit
+  pub matrix-fits : length matrix ≤ inputLimit
+
+-- **What the program prints.** Where a file is too long, the line of 18 alone; else nothing, where a matrix file is given (`turned`) that has not 72
+-- bytes; else that text.
 abbrev pub AskOutput : Type 0
-AskOutput = (kernel file matrix : List ℕ)
-    → ((inputLimit < length kernel) ⊎ ((inputLimit < length file) ⊎ (inputLimit < length matrix)) → ask.askOutput kernel file matrix ≡ refusalText InputTooLong)
-    × (length kernel ≤ inputLimit → length file ≤ inputLimit → length matrix ≤ inputLimit → ask.askOutput kernel file matrix ≡ ask.askText kernel file matrix)
+AskOutput = (kernel file : List ℕ) (turned : Bool) (matrix : List ℕ)
+    → ((inputLimit < length kernel) ⊎ ((inputLimit < length file) ⊎ (inputLimit < length matrix)) → ask.askOutput kernel file turned matrix ≡ refusalText InputTooLong)
+    × (AllShort kernel file matrix → turned ≡ true → (length matrix ≡ matrixSize → ⊥) → ask.askOutput kernel file turned matrix ≡ [])
+    × (AllShort kernel file matrix → (turned ≡ false) ⊎ (length matrix ≡ matrixSize) → ask.askOutput kernel file turned matrix ≡ ask.askText kernel file matrix)
 
 -- ---- `orient`, which remembers nothing
 

@@ -34,8 +34,8 @@ then {before} {at} {first} {second} {middle} {after} {next} {last} a b = record 
 }
 
 -- no text
-none : (before : List ℕ) (at : ℕ) → Written before at [] before at
-none before at = record { ends = omega arith; reads = sym (append-nil (take at before)); rest = refl }
+pub written-none : (before : List ℕ) (at : ℕ) → Written before at [] before at
+written-none before at = record { ends = omega arith; reads = sym (append-nil (take at before)); rest = refl }
 
 -- ---- a text that is put line by line into the buffer `before`: `left` of it is to be put at `at` into what the buffer is by now
 pub record Rest (before text : List ℕ) (at : ℕ) (by-now left : List ℕ) : Type 0 where
@@ -50,7 +50,7 @@ rest-line {at} {by-now} line later now' at' r e w =
     record { put = λ after next v. r .put after next (subst (λ (l : List ℕ). Written by-now at l after next) (sym e) (then w v)) }
 
 pub rest-last : {before text : List ℕ} {at : ℕ} {by-now left : List ℕ} → Rest before text at by-now left → left ≡ [] → Written before 0 text by-now at
-rest-last {at} {by-now} r e = r .put by-now at (subst (λ (l : List ℕ). Written by-now at l by-now at) (sym e) (none by-now at))
+rest-last {at} {by-now} r e = r .put by-now at (subst (λ (l : List ℕ). Written by-now at l by-now at) (sym e) (written-none by-now at))
 
 -- ---- any two buffers and places that it permits are equal
 pub two-texts : {before : List ℕ} {at : ℕ} {text : List ℕ} (after after' : List ℕ) (next next' : ℕ)

@@ -13,7 +13,6 @@ use Rattle.refusal.specs.declared.Refusal.{Refusal}
 use Rattle.refusal.specs.declared.Refusal.the-variants.{InputTooLong}
 use Rattle.refusal.proofs.Exactly.{first-two}
 use Rattle.lines.specs.Text.{refusalText}
-use Rattle.lines.specs.Written.{Written}
 use Rattle.streams.specs.Input.{inputLimit}
 use Rattle.tally.specs.declared.Outcome.{Outcome}
 use Rattle.tally.specs.declared.Outcome.the-variants.{Stated, Refused}
@@ -25,10 +24,6 @@ use Rattle.tally.proofs.Ways.{answer}
 use Rattle.tally.proofs.Exactly.{stated-only}
 use Rattle.statement_text.specs.Text.{lineText, linesText, totalText, statedText, statementText, programText}
 use Rattle.statement_text.specs.Steps.{firstLines}
-
--- no text yet
-pub written-none : (out : List ℕ) → Written out 0 [] out 0
-written-none out = record { ends = refl; reads = refl; rest = refl }
 
 lines-both : (a b : List Line) → linesText (a ++ b) ≡ linesText a ++ linesText b
 unfolding linesText

@@ -1,11 +1,13 @@
--- `ask_text::put_output` meets its contract: 18 where a file is too long, else the kernel's reply. Assumes nothing.
+-- `ask_text::put_output` meets its contract: 18 where a file is too long, no text where a matrix file is given that is none, else the kernel's reply.
+-- Assumes nothing.
 use mathlib.Core.Path.{sym, _∙_, subst}
 use mathlib.Core.Bool.{true, false}
 use mathlib.Core.List.{List}
 use Prim.Native.Nat.{ℕ}
 use native.Mathlib.Omega.{arith}
 use Rattle.lines.specs.Written.{Written}
-use Rattle.ask_text.proofs.Replies.{output-text}
+use Rattle.lines.proofs.Texts.{written-none}
+use Rattle.ask_text.proofs.Replies.{output-long, output-short}
 use borrow.Author.Needs.{needs}
 use Rattle.ask_text.proofs.put_output.Statement.{statement}
 use Rattle.ask_text.proofs.put_output.Tie as tie
@@ -17,18 +19,33 @@ returns c =
     let t = i .before in
     let a = t .before .before .before .before .before .args in (
       subst (λ (l : List ℕ). Written (a .out .now) 0 l (p .put-refusal .last .0) (p .put-refusal .result))
-          (sym (output-text (a .kernel .now) (a .asked .now) (a .matrix .now) true (sym (t .any-over .ensures) ∙ i .if1 .taken))) (p .put-refusal .ensures .0),
+          (sym (output-long (a .kernel .now) (a .asked .now) (a .turned) (a .matrix .now) (sym (t .any-over .ensures) ∙ i .if1 .taken))) (p .put-refusal .ensures .0),
       omega (arith, p .put-refusal .ensures .1),
     )
 
 returns-2 : tie.Need-returns-2
 returns-2 c =
+    let u = c .before in
+    let i = u .before in
+    let t = i .before in
+    let a = t .before .before .before .before .before .args in (
+      subst (λ (l : List ℕ). Written (a .out .now) 0 l (a .out .now) 0)
+          (sym (output-short (a .kernel .now) (a .asked .now) (a .turned) (a .matrix .now) true (sym (t .any-over .ensures) ∙ i .if1 .left) (sym (u .is-unfit .ensures) ∙ c .if2 .taken)))
+          (written-none (a .out .now) 0),
+      omega arith,
+    )
+
+returns-3 : tie.Need-returns-3
+returns-3 c =
     let p = c .before .before in
-    let i = p .before .before in
+    let e = p .before .before in
+    let u = e .before in
+    let i = u .before in
     let t = i .before in
     let a = t .before .before .before .before .before .args in (
       subst (λ (l : List ℕ). Written (a .out .now) 0 l (p .put-text .last .0) (p .put-text .result))
-          (sym (output-text (a .kernel .now) (a .asked .now) (a .matrix .now) false (sym (t .any-over .ensures) ∙ i .if1 .left))) (p .put-text .ensures .0),
+          (sym (output-short (a .kernel .now) (a .asked .now) (a .turned) (a .matrix .now) false (sym (t .any-over .ensures) ∙ i .if1 .left) (sym (u .is-unfit .ensures) ∙ e .if2 .left)))
+          (p .put-text .ensures .0),
       p .put-text .ensures .1,
     )
 
@@ -39,6 +56,9 @@ any-over-requires c κs = search needs
 
 put-refusal-requires : tie.Need-put-refusal-requires
 put-refusal-requires c κs = search needs
+
+is-unfit-requires : tie.Need-is-unfit-requires
+is-unfit-requires c κs = search needs
 
 put-text-requires : tie.Need-put-text-requires
 put-text-requires c κs = search needs
@@ -55,8 +75,10 @@ put-output-spec =
     (tie.spec
     any-over-requires
     put-refusal-requires
-    put-text-requires
     same-length
     returns
+    is-unfit-requires
+    returns-2
+    put-text-requires
     same-length-2
-    returns-2)
+    returns-3)

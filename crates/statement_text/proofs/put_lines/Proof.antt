@@ -7,10 +7,10 @@ use native.Mathlib.Omega.{arith}
 use lib.ListN.{length}
 use borrow.Author.Needs.{needs}
 use Rattle.lines.specs.Written.{Written}
-use Rattle.lines.proofs.Texts.{then}
+use Rattle.lines.proofs.Texts.{then, written-none}
 use Rattle.statement_text.specs.Text.{linesText}
 use Rattle.statement_text.specs.Steps.{firstLines}
-use Rattle.statement_text.proofs.Lines.{written-none, lines-next}
+use Rattle.statement_text.proofs.Lines.{lines-next}
 use Rattle.statement_text.proofs.put_lines.Statement.{statement}
 use Rattle.statement_text.proofs.put_lines.Tie as tie
 
@@ -23,7 +23,7 @@ abbrev μ-loop : tie.MeasureT-loop
 
 loop-holds : tie.Need-loop-holds Inv-loop μ-loop
 unfolding linesText firstLines
-loop-holds c = (search needs, search needs, refl, written-none (c .before .args .out .now))
+loop-holds c = (search needs, search needs, refl, written-none (c .before .args .out .now) 0)
 
 loop-again : tie.Need-loop-again Inv-loop μ-loop
 loop-again c =
