@@ -89,6 +89,7 @@ def scenarios(chance):
     yield "type9-7", "remember", "type 9, degree 7, 50 states, remembered", [states(chance, (399, 3, 1, 9), 7)], (399, 3)
     yield "type9-15", "remember", "type 9, degree 15, remembered", [states(chance, (399, 3, 1, 9), 15)], (399, 3)
     yield "type13", "remember", "type 13, window 8, 50 states, remembered", [states(chance, (399, 3, 1, 13), 7)], (399, 3)
+    yield "type13-32", "remember", "type 13, window 32, remembered", [states(Chance(4), (399, 3, 1, 13), 31)], (399, 3)
     yield "pck", "orient", "PCK type 2, 14 coefficients, 1 segment", [series(chance, (3000, 1, 2), 14)], (3000,)
     yield "open-0", "open", "opening, no segments", [], (399, 399)
     yield "open-14", "open", "opening, 14 segments", fourteen, (399, 399)

@@ -1,16 +1,18 @@
 -- What the definitions read: the table the 2n doubled nodes, and the first n values and slopes.
 -- Assumes nothing.
-use Prim.Native.Nat.{ℕ, zero, suc, _+_, _-_, _/_, _≤_, _<_}
+use Prim.Native.Nat.{ℕ, zero, suc, _+_, _-_, _*_, _/_, _≤_, _<_}
 use mathlib.Core.List.{List}
 use mathlib.Core.Path.{_≡_, refl}
+use native.Mathlib.Nat.{add-zero}
 use native.Mathlib.Omega.{arith}
 use lib.Ieee.{Float}
 use Rattle.bits.specs.F64.{at}
 use Rattle.bits.specs.Bytes.{every}
 use Rattle.bits.proofs.Agree.{Agree}
+use Rattle.bits.proofs.Fill.{Filled}
 use Rattle.hermite.specs.declared.Point.{Point}
 use Rattle.hermite.specs.Hermite.{doubled, difference, product, product′, valueTo, slopeTo, tableOf, hermiteOf}
-use Rattle.hermite.specs.Axes.{axisAt}
+use Rattle.hermite.specs.Axes.{axisAt, hermiteAt}
 use Rattle.hermite.specs.Steps.{axisTable}
 
 module _ (z z′ g g′ h h′ : ℕ → Float) (n : ℕ) (ez : Agree z z′ (n + n)) (eg : Agree g g′ n) (eh : Agree h h′ n) where
@@ -67,3 +69,12 @@ axis-from-kernel s e c x z read p b r t =
     rw t
     (table-same (at z) (doubled (every 8 s e)) (every 48 s b) (every 48 s b) (every 48 s (b + 24)) (every 48 s (b + 24)) c read
     (record { same = λ j h. refl }) (record { same = λ j h. refl }) x p)
+
+-- the values and the slopes of the three axes, each in a list, are the six numbers
+pub state-from-axes : (s : List ℕ) (q e c : ℕ) (x : Float) {n : ℕ} {v w : List Float} → 3 ≤ n → Filled (λ j. axisAt s (q + 8 * j) e c x .value) n v
+    → Filled (λ j. axisAt s (q + 8 * j) e c x .slope) n w → record { x = at v 0; y = at v 1; z = at v 2; vx = at w 0; vy = at w 1; vz = at w 2 } ≡ hermiteAt s q e c x
+unfolding hermiteAt
+state-from-axes s q e c x l values slopes =
+    let value = values .holds in
+    let slope = slopes .holds in
+    rw (value 0 (omega arith), value 1 (omega arith), value 2 (omega arith), slope 0 (omega arith), slope 1 (omega arith), slope 2 (omega arith), add-zero q)

@@ -2,14 +2,15 @@
 -- Assumes nothing.
 use Prim.Native.Nat.{ℕ, zero, suc, _+_, _-_, _*_, _/_, _%_, _≤_, _<_}
 use mathlib.Core.List.{List}
-use mathlib.Core.Path.{_≡_, refl, subst}
+use mathlib.Core.Path.{_≡_, refl, subst, _∙_}
 use native.Mathlib.Numerals.{add-one}
 use native.Mathlib.Omega.{arith}
-use lib.Ieee.{Float}
+use lib.Ieee.{Float, nan}
 use lib.ListN.{length, set, length-set}
+use lib.Seq.{getD-set-other}
 use borrow.Author.Tests.{eq-eqb, ne-eqb}
 use Rattle.bits.specs.F64.{_⊖_, at, +0, one}
-use Rattle.bits.proofs.Fill.{Filled, fill-more}
+use Rattle.bits.proofs.Fill.{Filled, fill-none, fill-more}
 use Rattle.hermite.specs.declared.Newton.{Newton}
 use Rattle.hermite.specs.Hermite.{doubled, quotient, difference, product, product′, valueTo, slopeTo, tableOf}
 use Rattle.hermite.specs.Steps.{newtonAt, advanced}
@@ -91,3 +92,21 @@ fill-twice f i {n} {xs} {v} below e l ev =
     let once : Filled (doubled f) (2 * i + 1) (set xs (2 * i) v) = fill-more below e (omega arith) (rw here ev) in
     subst (λ (k : ℕ). Filled (doubled f) k (set (set xs (2 * i) v) (2 * i + 1) v)) both
     (fill-more once (simp length-set e) l (rw there ev))
+
+-- The pass for order k over the column old, from the low end up: the places below i hold the new column, those from i on still the old one.
+pub record Overwritten (z : ℕ → Float) (k : ℕ) (old : List Float) (i : ℕ) (col : List Float) : Type 0 where
+  pub below : Filled (quotient (at old) z k) i col
+  pub above : (j : ℕ) → i ≤ j → at col j ≡ at old j
+
+pub overwrite-none : {z : ℕ → Float} {k : ℕ} {old : List Float} → Overwritten z k old 0 old
+overwrite-none = record { below = fill-none; above = λ j l. refl }
+
+-- one turn: the difference at place i is made of two numbers that are not overwritten yet
+pub overwrite-more : {z : ℕ → Float} {k : ℕ} {old : List Float} {i n : ℕ} {col : List Float} {v : Float} → Overwritten z k old i col → length col ≡ n → i < n
+    → v ≡ quotient (at col) z k i → Overwritten z k old (i + 1) (set col i v)
+overwrite-more {z} {k} {old} {i} {n} {col} {v} o e l ev =
+    let kept : quotient (at col) z k i ≡ quotient (at old) z k i = rw (o .above (i + 1) (omega arith), o .above i (omega arith)) in
+    record {
+      below = fill-more (o .below) e l (ev ∙ kept);
+      above = λ j h. getD-set-other col i j v nan (λ s. omega arith) ∙ o .above j (omega arith);
+    }

@@ -1,5 +1,6 @@
-// Hermite, straight from the kernel: `hermite_eval` of the Rust, with the doubled nodes shared by the three axes. A column of divided
-// differences is an array of 64. The coefficient of order k is the first number of column k, so the Newton form is summed as the columns are made.
+// Hermite, straight from the kernel: `hermite_eval` of the Rust. There are two arrays of 64, made once and shared by the three axes: the doubled nodes,
+// and a column of divided differences, which the next one overwrites. The coefficient of order k is the first number of column k, so the Newton form is
+// summed as the columns are made.
 
 use frame::State;
 ghost use mathlib.Core.Path.{_≡_};
@@ -40,12 +41,11 @@ fn with_term(s: Newton, c: f64, u: f64) -> Newton
     }
 }
 
-// The first c epochs from byte e on, each twice.
-fn nodes_at(kernel: &[u8], e: usize, c: usize) -> [f64; 64]
-    requires { ⌜ (c ≤ 32) × (e + 8 * c ≤ length (now kernel)) ⌝ }
-    ensures { λ r. ⌜ ((j : ℕ) → j < c + c → at r j ≡ doubled (every 8 (now (kernel .entry)) e) j) ⌝ }
+// The first c epochs from byte e on, each twice, in z.
+fn nodes_at(kernel: &[u8], e: usize, c: usize, z: &mut [f64; 64])
+    requires { ⌜ (c ≤ 32) × (e + 8 * c ≤ length (now kernel)) × (length (now z) ≡ 64) ⌝ }
+    ensures { λ r. ⌜ (length (now (z .exit)) ≡ 64) × ((j : ℕ) → j < c + c → at (now (z .exit)) j ≡ doubled (every 8 (now (kernel .entry)) e) j) ⌝ }
 {
-    let mut z = [0.0; 64];
     let mut i: usize = 0;
     while i < c {
         let epoch = bits::double_at(kernel, e + 8 * i);
@@ -53,7 +53,6 @@ fn nodes_at(kernel: &[u8], e: usize, c: usize) -> [f64; 64]
         z[2 * i + 1] = epoch;
         i += 1;
     }
-    z
 }
 
 // The first difference at place i, of the values at byte q of each state and the slopes 24 bytes after:
@@ -69,55 +68,52 @@ fn first_at(kernel: &[u8], q: usize, z: &[f64; 64], i: usize) -> f64
         / (z[i + 1] - z[i])
 }
 
-// The column of order 1.
-fn first_column(kernel: &[u8], q: usize, z: &[f64; 64], c: usize) -> [f64; 64]
-    requires { ⌜ (c ≤ 32) × (q + 48 * c ≤ length (now kernel) + 16) ⌝ }
-    ensures { λ r. ⌜ (length r ≡ 64) × ((i : ℕ) → i + 1 < c + c → at r i ≡ axisColumn (now (kernel .entry)) q (now (z .entry)) 1 i) ⌝ }
+// The column of order 1, in col.
+fn first_column(kernel: &[u8], q: usize, z: &[f64; 64], c: usize, col: &mut [f64; 64])
+    requires { ⌜ (c ≤ 32) × (q + 48 * c ≤ length (now kernel) + 16) × (length (now col) ≡ 64) ⌝ }
+    ensures { λ r. ⌜ (length (now (col .exit)) ≡ 64) × ((i : ℕ) → i + 1 < c + c → at (now (col .exit)) i ≡ axisColumn (now (kernel .entry)) q (now (z .entry)) 1 i) ⌝ }
 {
     let m = c + c;
-    let mut col = [0.0; 64];
     let mut i: usize = 0;
     while i + 1 < m {
         col[i] = first_at(kernel, q, z, i);
         i += 1;
     }
-    col
 }
 
-// The column of order k from the one before.
-fn next_column(cur: &[f64; 64], next: &mut [f64; 64], z: &[f64; 64], m: usize, k: usize)
-    requires { ⌜ (1 ≤ k) × (k ≤ m) × (m ≤ 64) × (length (now next) ≡ 64) ⌝ }
-    ensures { λ r. ⌜ (length (now (next .exit)) ≡ 64) × ((i : ℕ) → i + k < m → at (now (next .exit)) i ≡ quotient (at (now (cur .entry))) (at (now (z .entry))) k i) ⌝ }
+// The column of order k in place of the one before, from the low end up: place i is the last that reads number i of the old column.
+fn next_column(col: &mut [f64; 64], z: &[f64; 64], m: usize, k: usize)
+    requires { ⌜ (1 ≤ k) × (k ≤ m) × (m ≤ 64) × (length (now col) ≡ 64) ⌝ }
+    ensures { λ r. ⌜ (length (now (col .exit)) ≡ 64) × ((i : ℕ) → i + k < m → at (now (col .exit)) i ≡ quotient (at (now (col .entry))) (at (now (z .entry))) k i) ⌝ }
 {
     let mut i: usize = 0;
     while i + k < m {
-        next[i] = (cur[i + 1] - cur[i]) / (z[i + k] - z[i]);
+        col[i] = (col[i + 1] - col[i]) / (z[i + k] - z[i]);
         i += 1;
     }
 }
 
-// One axis over c doubled nodes z: values at byte q of each state, slopes 24 bytes after.
-fn axis_at(kernel: &[u8], q: usize, z: &[f64; 64], c: usize, x: f64) -> Point
-    requires { ⌜ (1 ≤ c) × (c ≤ 32) × (q + 48 * c ≤ length (now kernel) + 16) ⌝ }
-    ensures { λ r. ⌜ r ≡ axisTable (now (kernel .entry)) q (now (z .entry)) c x ⌝ }
+// One axis over c doubled nodes z: values at byte q of each state, slopes 24 bytes after. Its columns are made in col, one over the other.
+fn axis_at(kernel: &[u8], q: usize, z: &[f64; 64], c: usize, x: f64, col: &mut [f64; 64]) -> Point
+    requires { ⌜ (1 ≤ c) × (c ≤ 32) × (q + 48 * c ≤ length (now kernel) + 16) × (length (now col) ≡ 64) ⌝ }
+    ensures { λ r. ⌜ (length (now (col .exit)) ≡ 64) × (r ≡ axisTable (now (kernel .entry)) q (now (z .entry)) c x) ⌝ }
 {
     let m = c + c;
-    let mut cur = first_column(kernel, q, z, c);
-    let mut next = [0.0; 64];
+    first_column(kernel, q, z, c, col);
     let first = Newton {
         val: bits::double_at(kernel, q),
         der: 0.0,
         prod: 1.0,
         dprod: 0.0,
     };
-    let mut s = with_term(first, cur[0], x - z[0]);
+    let mut s = with_term(first, col[0], x - z[0]);
     let mut k: usize = 1;
-    // the orders come in pairs, so that the two columns change places
+    // the orders come in pairs, so that the compiler can tell the columns of an even number of places from those of an odd one
     while k + 2 < m {
-        next_column(&cur, &mut next, z, m, k + 1);
-        s = with_term(s, next[0], x - z[k]);
-        next_column(&next, &mut cur, z, m, k + 2);
-        s = with_term(s, cur[0], x - z[k + 1]);
+        next_column(col, z, m, k + 1);
+        s = with_term(s, col[0], x - z[k]);
+        next_column(col, z, m, k + 2);
+        s = with_term(s, col[0], x - z[k + 1]);
         k += 2;
     }
     Point {
@@ -131,16 +127,24 @@ pub fn hermite_at(kernel: &[u8], q: usize, e: usize, c: usize, x: f64) -> State
     requires { ⌜ (1 ≤ c) × (c ≤ 32) × (q + 48 * c ≤ length (now kernel)) × (e + 8 * c ≤ length (now kernel)) ⌝ }
     ensures { λ r. ⌜ r ≡ hermiteAt (now (kernel .entry)) q e c x ⌝ }
 {
-    let z = nodes_at(kernel, e, c);
-    let a = axis_at(kernel, q, &z, c, x);
-    let b = axis_at(kernel, q + 8, &z, c, x);
-    let d = axis_at(kernel, q + 16, &z, c, x);
+    let mut z = [0.0; 64];
+    nodes_at(kernel, e, c, &mut z);
+    let mut col = [0.0; 64];
+    let mut values = [0.0; 3];
+    let mut slopes = [0.0; 3];
+    let mut j: usize = 0;
+    while j < 3 {
+        let p = axis_at(kernel, q + 8 * j, &z, c, x, &mut col);
+        values[j] = p.value;
+        slopes[j] = p.slope;
+        j += 1;
+    }
     State {
-        x: a.value,
-        y: b.value,
-        z: d.value,
-        vx: a.slope,
-        vy: b.slope,
-        vz: d.slope,
+        x: values[0],
+        y: values[1],
+        z: values[2],
+        vx: slopes[0],
+        vy: slopes[1],
+        vz: slopes[2],
     }
 }

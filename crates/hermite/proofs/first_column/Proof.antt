@@ -1,6 +1,6 @@
 -- `hermite::first_column` meets its contract. The loop's invariant: the array has 64 places, and the first i hold the column. Assumes nothing.
 use Prim.Native.Nat.{_+_, _≤_, _-_}
-use mathlib.Core.Path.{_≡_, refl}
+use mathlib.Core.Path.{_≡_}
 use lib.ListN.{length, length-set}
 use Rattle.bits.specs.F64.{at}
 use Rattle.bits.specs.Bytes.{every}
@@ -11,16 +11,16 @@ use Rattle.hermite.proofs.first_column.Statement.{statement}
 use Rattle.hermite.proofs.first_column.Tie as tie
 
 abbrev Inv-loop : tie.InvT-loop
-Inv-loop kernel q z c m col₀ i₀ col i = (length col ≡ 64) × (i ≤ m) × Filled (difference (at z) (every 48 kernel q) (every 48 kernel (q + 24)) 1) i col
+Inv-loop kernel q z c col₀ m i₀ col i = (length col ≡ 64) × (i ≤ m) × Filled (difference (at z) (every 48 kernel q) (every 48 kernel (q + 24)) 1) i col
 
 abbrev μ-loop : tie.MeasureT-loop
-μ-loop kernel q z c m col₀ i₀ col i = m - i
+μ-loop kernel q z c col₀ m i₀ col i = m - i
 
 add-m : tie.Need-add-m Inv-loop μ-loop
 add-m c = omega arith
 
 loop-holds : tie.Need-loop-holds Inv-loop μ-loop
-loop-holds c = (refl, omega arith, fill-none)
+loop-holds c = (c .before .pre .2, omega arith, fill-none)
 
 add-loop : tie.Need-add-loop Inv-loop μ-loop
 add-loop c = omega arith
@@ -31,8 +31,8 @@ first-at-requires c κs = omega arith
 mul-col : tie.Need-mul-col Inv-loop μ-loop
 mul-col c = omega arith
 
-array-write-col : tie.Need-array-write-col Inv-loop μ-loop
-array-write-col c = omega arith
+element-write-col : tie.Need-element-write-col Inv-loop μ-loop
+element-write-col c = omega arith
 
 add-i : tie.Need-add-i Inv-loop μ-loop
 add-i c = omega arith
@@ -61,7 +61,7 @@ first-column-spec =
     add-loop
     first-at-requires
     mul-col
-    array-write-col
+    element-write-col
     add-i
     loop-less
     loop-again

@@ -1,6 +1,6 @@
 -- `hermite::nodes_at` meets its contract. The loop's invariant: the array has 64 places, and the first 2i hold the doubled epochs. Assumes nothing.
 use Prim.Native.Nat.{_*_, _≤_, _-_}
-use mathlib.Core.Path.{_≡_, refl}
+use mathlib.Core.Path.{_≡_}
 use denote.Ref.{now}
 use lib.ListN.{length, length-set}
 use Rattle.bits.specs.Bytes.{every}
@@ -18,7 +18,7 @@ abbrev μ-loop : tie.MeasureT-loop
 μ-loop kernel e c z₀ i₀ z i = c - i
 
 loop-holds : tie.Need-loop-holds Inv-loop μ-loop
-loop-holds c = (refl, omega arith, fill-none)
+loop-holds c = (c .before .pre .2, omega arith, fill-none)
 
 mul-double-at : tie.Need-mul-double-at Inv-loop μ-loop
 mul-double-at c = omega arith
@@ -35,8 +35,8 @@ mul-z c = omega arith
 mul-z-2 : tie.Need-mul-z-2 Inv-loop μ-loop
 mul-z-2 c = omega arith
 
-array-write-z : tie.Need-array-write-z Inv-loop μ-loop
-array-write-z c = omega arith
+element-write-z : tie.Need-element-write-z Inv-loop μ-loop
+element-write-z c = omega arith
 
 mul-z-3 : tie.Need-mul-z-3 Inv-loop μ-loop
 mul-z-3 c = omega arith
@@ -47,8 +47,8 @@ add-z c = omega arith
 mul-z-4 : tie.Need-mul-z-4 Inv-loop μ-loop
 mul-z-4 c = omega arith
 
-array-write-z-2 : tie.Need-array-write-z-2 Inv-loop μ-loop
-array-write-z-2 c = omega arith
+element-write-z-2 : tie.Need-element-write-z-2 Inv-loop μ-loop
+element-write-z-2 c = omega arith
 
 add-i : tie.Need-add-i Inv-loop μ-loop
 add-i c = omega arith
@@ -63,7 +63,9 @@ loop-again c =
     (simp length-set (inv .0), omega arith, fill-twice (every 8 (now (args .kernel)) (args .e)) (c .before .before .loop .i) (inv .2) (inv .0) (omega arith) (c .double-at .ensures))
 
 returns : tie.Need-returns Inv-loop μ-loop
-returns c j l = c .before .loop .inv .2 .holds j (omega arith)
+returns c =
+    let inv = c .before .loop .inv in
+    (inv .0, λ j l. inv .2 .holds j (omega arith))
 
 pub nodes-at-spec : {M : Type 1} → statement M
 nodes-at-spec =
@@ -77,11 +79,11 @@ nodes-at-spec =
     double-at-requires
     mul-z
     mul-z-2
-    array-write-z
+    element-write-z
     mul-z-3
     add-z
     mul-z-4
-    array-write-z-2
+    element-write-z-2
     add-i
     loop-less
     loop-again
