@@ -3,8 +3,9 @@
 
 OBJECT is the x86-64 object of `replay_measure` as `rt check` makes it (target/obj/replay_measure.o). Its machine code is read: a function's
 frame is what it pushes and takes off the stack pointer, a call adds its return address and the callee's need, and the
-deepest way counts. Where a walk calls itself, once for each of up to 32 steps, its frame counts 33 times; the compiler
-may have made a loop of it. The C library's functions, which copy and clear, are counted as none.
+deepest way counts; of a question of one type, the deepest that such a segment takes. Where a walk calls itself, once for
+each of up to 32 steps, its frame counts 33 times; the compiler may have made a loop of it. The C library's functions,
+which copy and clear, are counted as none.
 """
 
 import re
@@ -13,16 +14,25 @@ import sys
 
 OBJDUMP = "x86_64-linux-gnu-objdump"
 STEPS = {"lent::walk": 33, "indexed::walk": 33}
+# The functions that a way leaves out: the chain; Hermite, where no segment has type 13; the tests themselves, where a segment plainly fits.
+CHAIN = {"lent::walk"}
+HERMITE = {"hermite::hermite_at", "hermite::axis_at"}
+TESTS = {"segment::evaluate_any", "segment::evaluating::evaluate_any"}
+# What is called, its function, and what it leaves out.
 ENTRIES = [
-    ("a question (`state`)", "lent::state"),
-    ("of it, the evaluation of a segment", "segment::evaluate"),
-    ("of it, a chain of 32 steps", "lent::walk"),
-    ("a question through an index", "indexed::state"),
-    ("of it, a chain of 32 steps", "indexed::walk"),
-    ("an orientation (`orient`)", "lent::orient"),
-    ("an opening: the plan", "opening::plan_of"),
-    ("an opening: the table filled", "lent::carry_out"),
-    ("an opening: the table and its index filled", "indexed::carry_out"),
+    ("a question (`state`), whatever is asked", "lent::state", set()),
+    ("of it, one segment of type 2 that plainly fits", "lent::state", CHAIN | TESTS),
+    ("of it, one segment of type 9", "lent::state", CHAIN | HERMITE),
+    ("of it, one segment of type 13", "lent::state", CHAIN),
+    ("of it, the evaluation of a segment", "segment::evaluate", set()),
+    ("of it, a chain of 32 steps", "lent::walk", set()),
+    ("a question through an index", "indexed::state", set()),
+    ("of it, a chain of 32 steps", "indexed::walk", set()),
+    ("an orientation (`orient`)", "lent::orient", HERMITE),
+    ("of it, a segment that plainly fits", "lent::orient", TESTS),
+    ("an opening: the plan", "opening::plan_of", set()),
+    ("an opening: the table filled", "lent::fill", set()),
+    ("an opening: the table and its index filled", "indexed::carry_out", set()),
 ]
 
 
@@ -65,7 +75,7 @@ def functions(text):
 
 
 def need(table, name, seen=()):
-    """The bytes of the deepest way from a call on, its return address included, and that way."""
+    """The bytes of the deepest way from a call on that calls none of the functions seen, its return address included, and that way."""
     here = table[name]
     best, way = 0, []
     for callee in here.calls:
@@ -82,9 +92,9 @@ def main():
     table = functions(text)
     print("| one call of | bytes of stack | deepest way, with each frame |")
     print("|---|---|---|")
-    for what, name in ENTRIES:
+    for what, name, left_out in ENTRIES:
         if name in table:
-            n, way = need(table, name)
+            n, way = need(table, name, tuple(left_out))
             print(f"| {what} | {n:,} | {', '.join(f'`{w}` {f:,}' for w, f in way)} |")
         else:
             print(f"| {what} | | `{name}` has no frame of its own: it is part of its caller |")
