@@ -42,7 +42,7 @@ $run target/bin/listing <$kernel >"$lines"
 show "listing <$kernel"
 
 $run target/bin/ask $kernel $questions >"$lines"
-show "ask $kernel $questions" --questions $questions
+show "ask $kernel $questions" --questions $questions --frame J2000
 
 $run target/bin/ask $kernel $questions $matrix >"$lines"
 show "ask $kernel $questions $matrix" --questions $questions --frame ECLIPJ2000

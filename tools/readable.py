@@ -6,6 +6,7 @@
   listing <KERNEL | tools/readable.py
   ask KERNEL QUESTIONS | tools/readable.py --questions QUESTIONS
   ask KERNEL QUESTIONS MATRIX | tools/readable.py -q QUESTIONS --frame ECLIPJ2000
+  ask KERNEL QUESTIONS MATRIX 1 | tools/readable.py -q QUESTIONS --frame J2000
   orient KERNEL QUESTIONS | tools/readable.py -q QUESTIONS
 
 A double is printed as the shortest decimal that gives the same double, with
@@ -14,7 +15,9 @@ as the program wrote them. Epochs are seconds past J2000 TDB, and dates are TDB
 in the Gregorian calendar; a date with a ~ is not exact, the seconds beside it
 are. The way of an answer is `same` (target equals center), `forward` (that
 segment answers), `reversed` (a segment of the swapped pair, negated) or
-`chained` (target and center, each by way of body 0). Refusals are given in the
+`chained` (target and center, each by way of body 0). The lines don't tell the
+frame of a state: --frame does, and without it a state is called `as it
+stands`, which is in the frame of its segments. Refusals are given in the
 words of docs/RULES.md. With the question file each answer stands under its
 question. A line that no program writes is named on the error output, and then
 nothing is printed.
@@ -56,6 +59,7 @@ REFUSALS = {
     18: "a program's input is over 65,536 bytes",
     19: "a record of a program's input doesn't begin with its mark, or is cut short",
     20: "a usage file names a 513th supplier",
+    21: "a state is asked in a frame that it can't be turned to",
 }
 DETAILS = {9: "segment", 11: "body", 12: "type", 13: "segment", 16: "segment"}
 # Refusals of a whole run: those of the opening and of the input of these three programs. A question never has them, and a run never has another.
@@ -189,7 +193,7 @@ def answer_text(line, is_frame, frame):
     """The question's number, its answer in words, and the lines of its numbers."""
     found = STATE.fullmatch(line)
     if found and not is_frame:
-        way = re.sub(r" (\d+)", r", segment \1", found.group(2)) + f", in {frame}"
+        way = re.sub(r" (\d+)", r", segment \1", found.group(2)) + (f", in {frame}" if frame else ", as it stands")
         return int(found.group(1)), way, list(columns("xyz", ("km", "km/s"), found.group(3).split()))
     found = ORIENTATION.fullmatch(line)
     if found and is_frame:
@@ -274,7 +278,7 @@ def arguments():
     parser = argparse.ArgumentParser(description=__doc__, formatter_class=argparse.RawDescriptionHelpFormatter)
     parser.add_argument("lines", nargs="?", metavar="LINES", help="the lines; standard input where none is given")
     parser.add_argument("-q", "--questions", metavar="FILE", help="the question file that the lines answer")
-    parser.add_argument("--frame", metavar="NAME", default="J2000", help="what the frame of the states is called; ECLIPJ2000 where a matrix was given")
+    parser.add_argument("--frame", metavar="NAME", help="what the frame of the states is called: ECLIPJ2000 where a matrix was given without FRAME")
     return parser.parse_args()
 
 

@@ -9,6 +9,7 @@ another kernel, go through `replay_cases`, kernels of over 65,536 bytes through 
 - opening tagged refused: that refusal line alone, whatever the Rust does; its doing is counted.
 - NaN epoch: 10. A segment asked by its number that doesn't exist: 17. One that the table doesn't fit: 14. The Rust's error of coverage, type, RADIUS: 11, 12, 13 with the detail it names.
 - six numbers of which one is not finite: 15. Six finite numbers: the Rust's own line, to the bit.
+- a case with frames: the second program's lines (tests/second), since the Rust turns every state as from J2000. They are counted by themselves.
 - anything else of the Rust on an accepted kernel (a panic, another error) is a failure of the comparison.
   Where a degree would wrap in it, it is asked about the twin that gen.py wrote.
 """
@@ -26,6 +27,8 @@ import tempfile
 from opening import summaries, walk
 
 HERE = os.path.dirname(os.path.abspath(__file__))
+sys.path.append(os.path.join(HERE, "..", "second"))
+import second  # noqa: E402
 
 
 class Case:
@@ -35,6 +38,7 @@ class Case:
         self.number, self.family, self.program, self.expect, self.note = line.split("\t")
         self.base = os.path.join(folder, self.number)
         self.unfit = set(map(int, self.note.split()[1:])) if self.note.startswith("unfit") else set()
+        self.framed = self.note.startswith("framed")
 
     def path(self, suffix):
         return f"{self.base}.{suffix}"
@@ -49,6 +53,10 @@ class Case:
     def matrix(self):
         return [self.path("matrix")] if os.path.exists(self.path("matrix")) else []
 
+    def frame(self):
+        """The argument FRAME, where there is one."""
+        return self.note.split()[1:] if self.framed else []
+
     def forged(self):
         return os.path.exists(self.path("origin"))
 
@@ -56,7 +64,8 @@ class Case:
         """This case as the program `replay_cases` reads it."""
         parts = [self.read(suffix) for suffix in ("origin", "kernel", "questions")]
         kind = {"orient": 2, "alone": 3}.get(self.program, 1 if self.matrix() else 0)
-        return struct.pack("<4I", kind, *map(len, parts)) + self.read("matrix") + b"".join(parts)
+        frame = struct.pack("<i", *map(int, self.frame() or [17])) if kind == 1 else b""
+        return struct.pack("<4I", kind, *map(len, parts)) + self.read("matrix") + frame + b"".join(parts)
 
     def rust_kernel(self):
         twin = self.path("twin")
@@ -174,7 +183,7 @@ class Comparison:
     def replayed(self, case):
         """What our program prints about a case: its own program, or `replay_cases` where that takes no such input."""
         if not case.forged() and case.program != "alone":
-            return self.ours(case.program, [case.path("kernel"), case.path("questions"), *case.matrix()])
+            return self.ours(case.program, [case.path("kernel"), case.path("questions"), *case.matrix(), *case.frame()])
         with tempfile.NamedTemporaryFile() as f:
             f.write(case.block())
             f.flush()
@@ -222,6 +231,14 @@ class Comparison:
             lines.append(line)
         return lines
 
+    def by_second(self, case):
+        """The second program's lines for a case with frames."""
+        lines = second.answer_lines(case.program, *map(case.read, ("kernel", "questions", "matrix")), *case.frame())
+        for line in lines:
+            said = line.split(" ")
+            self.counts[f"in a frame, by the second program: {f'refusal {said[2]}' if said[1] == 'refused' else said[1]}"] += 1
+        return lines
+
     def refused(self, case):
         """Our line for a kernel that RULES, "Opening", refuses; the Rust's doing is counted beside it."""
         number = case.expect.split(" ")[1]
@@ -250,6 +267,8 @@ class Comparison:
         if by_program:
             want = [case.expect] if case.expect else []
             self.counts["refused by the program itself"] += len(want)
+        elif case.framed:
+            want = self.by_second(case)
         elif case.expect == "accepted":
             want = self.wanted(case)
         else:

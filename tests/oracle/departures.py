@@ -3,6 +3,7 @@
 
 What RULES demands is held against our program where one is given; what the Rust does is held against the
 Rust, so that a departure which is gone shows. An expected line may be the beginning of the line printed.
+A case may have a matrix after its lines; `ask` is then asked in ECLIPJ2000.
 """
 
 import argparse
@@ -17,6 +18,8 @@ from kernels import INF, NAN, RECORD, Kernel, Segment, ask_record, double, orien
 ONE = [5.0, 5.0, 1.0, 2.0, 3.0]  # a record of one coefficient: MID, RADIUS, x, y, z
 SIX = "3ff0000000000000 4000000000000000 4008000000000000 0000000000000000 0000000000000000 0000000000000000"
 WRAPPED = 2.0**64
+QUARTER = b"".join(map(double, (0.0, 1.0, 0.0, -1.0, 0.0, 0.0, 0.0, 0.0, 1.0)))  # a turn of (x, y, z) to (y, -x, z)
+TURNED = "4000000000000000 bff0000000000000 4008000000000000 0000000000000000 0000000000000000 0000000000000000"
 MALFORMED = ["refused 9 0"]
 
 
@@ -84,7 +87,17 @@ def walks():
     yield "NSUM 26", spk(segment(series())).put(RECORD + 16, double(26.0)), at, ["refused 7 0"], ["opening error summary"]
     yield "1,024 bytes, FWARD 2^32 - 1", spk().put(76, b"\xff" * 4), at, ["refused 5 0"], ["opening error"]
     yield "an ID word that goes on otherwise", spk(segment(series())).put(4, b"XYZ "), at, [f"0 forward 0 {SIX}"], ["opened 1", f"0 forward 0 {SIX}"]
-    yield "a frame number of 17 is J2000", spk(Segment((399, 3, 17, 2), 0.0, 10.0, series())), at, [f"0 forward 0 {SIX}"], ["opened 1", f"0 forward 0 {SIX}"]
+
+
+def frames():
+    """The same: a segment's own frame, with no frame asked and in ECLIPJ2000."""
+    at, plain, turned = ask_record(399, 3, 1.0), [f"0 forward 0 {SIX}"], [f"0 forward 0 {TURNED}"]
+    for frame, ours in ((1, turned), (17, plain), (13, ["0 refused 21 0"])):
+        kernel = spk(Segment((399, 3, frame, 2), 0.0, 10.0, series()))
+        yield f"a segment in frame {frame}, asked with no frame", kernel, at, plain, ["opened 1", *plain]
+        yield f"a segment in frame {frame}, asked in ECLIPJ2000", kernel, at, ours, ["opened 1", *turned], QUARTER
+    mixed = spk(segment(series(), pair=(399, 0)), Segment((301, 0, 17, 2), 0.0, 10.0, series()))
+    yield "a chain of frames 1 and 17, asked in ECLIPJ2000", mixed, ask_record(399, 301, 1.0), ["0 refused 21 0"], ["opened 2", "0 chained"], QUARTER
 
 
 def orientations():
@@ -114,22 +127,24 @@ def main():
     options = parser.parse_args()
     oracle, good = os.path.join(HERE, "target/release/oracle"), True
     with tempfile.TemporaryDirectory() as folder:
-        paths = [os.path.join(folder, name) for name in ("kernel", "questions")]
 
         def write(*files):
+            """The files' paths, once they are written."""
+            paths = [os.path.join(folder, name) for name in ("kernel", "questions", "matrix")][: len(files)]
             for path, data in zip(paths, files):
                 with open(path, "wb") as f:
                     f.write(data)
+            return paths
 
-        for program, families in (("ask", (trailers, addresses, epochs, walks)), ("orient", (orientations,))):
-            for name, kernel, question, ours, rust in (case for family in families for case in family()):
-                write(kernel.bytes if isinstance(kernel, Kernel) else kernel, question)
+        for program, families in (("ask", (trailers, addresses, epochs, walks, frames)), ("orient", (orientations,))):
+            for name, kernel, question, ours, rust, *matrix in (case for family in families for case in family()):
+                paths = write(kernel.bytes if isinstance(kernel, Kernel) else kernel, question, *matrix)
                 good &= report("the Rust", name, rust, run([oracle, program, *paths]))
                 if getattr(options, program):
                     words = shlex.split(options.run) + shlex.split(getattr(options, program))
                     good &= report("ours", name, ours, run([*words, *paths]))
-        write(spk(segment(series(), name="é".encode())).bytes)
-        good &= report("the Rust", "a name that is not ASCII is kept", ["opened 1", "0 c3a9"], run([oracle, "names", paths[0]]))
+        paths = write(spk(segment(series(), name="é".encode())).bytes)
+        good &= report("the Rust", "a name that is not ASCII is kept", ["opened 1", "0 c3a9"], run([oracle, "names", *paths]))
     sys.exit(0 if good else 1)
 
 

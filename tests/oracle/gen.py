@@ -5,8 +5,10 @@ Writes N.kernel, N.questions and where there is one N.matrix, and index.tsv with
 number, family, program, what RULES, "Opening", demands of the opening (`accepted`, `refused N D`, or the whole
 output of a program that refuses its input), and a note: `degree wraps`, where the Rust is asked about N.twin
 with a degree that doesn't; or `unfit` and numbers of segments, where the table is made from N.origin and
-these segments then don't fit N.kernel (the Rust's kernel is N.twin, whose trailers and length are the origin's).
-A case whose opening is accepted lies in demand 2's domain: each answer of six finite numbers must have the Rust's bits.
+these segments then don't fit N.kernel (the Rust's kernel is N.twin, whose trailers and length are the origin's); or `framed`
+and the argument FRAME, or nothing, where segments are in several frames, states are asked in one, and the second program
+is asked in the Rust's place: the Rust turns every state as from J2000.
+A case whose opening is accepted and that isn't framed lies in demand 2's domain: each answer of six finite numbers must have the Rust's bits.
 """
 
 import os
@@ -19,7 +21,7 @@ import forged
 from kernels import INF, NAN, Chance, Kernel, ask_record, double, orient_record
 from opening import opening, unwrapped
 from valid import (BODIES, UNSUPPORTED, alone, chain, layout_of, mixed, orientations, overlaps, pck_mixed, planets,
-                   questions, segment, states)
+                   questions, reframed, segment, states)
 
 HANDLED = [2, 3, 9, 13]
 LIMIT = 65536
@@ -45,12 +47,12 @@ class Cases:
                 self.file(suffix, data)
         self.lines.append("\t".join((str(len(self.lines)), family, program, expect, note)))
 
-    def spk(self, family, kernel, asked, aimed=None, program="ask", **more):
+    def spk(self, family, kernel, asked, aimed=None, program="ask", note="", **more):
         """A case whose tag comes from the bytes and must be the one aimed at."""
         expect = opening(kernel, "spk")
         check(family, aimed, expect, kernel, WIDE if program == "wide" else LIMIT)
         twin = unwrapped(kernel) if expect == "accepted" else None
-        self.add(family, program, kernel, asked, expect, "degree wraps" if twin else "", twin=twin, **more)
+        self.add(family, program, kernel, asked, expect, "degree wraps" if twin else note, twin=twin, **more)
 
     def pck(self, family, kernel, asked, aimed=None):
         expect = opening(kernel, "pck")
@@ -95,7 +97,7 @@ def accepted_spk(cases, chance, scale):
         k = mixed(chance, chance.between(1, 25), HANDLED * 3 + [chance.pick(UNSUPPORTED)], BODIES[: chance.between(3, 10)])
         cases.spk("mixed", k.bytes, questions(chance, k.segments, 200, BODIES))
     for i in range(40 * scale):
-        k = mixed(chance, chance.between(1, 12), HANDLED * 3 + [chance.pick(UNSUPPORTED)], BODIES[:6])
+        k = mixed(chance, chance.between(1, 12), HANDLED * 3 + [chance.pick(UNSUPPORTED)], BODIES[:6], frames=(1,))
         asked = questions(chance, k.segments, 160, BODIES)
         cases.spk("turned", k.bytes, asked, matrix=eclip() if i % 2 else turn(chance))
     for i in range(40 * scale):
@@ -110,6 +112,18 @@ def accepted_spk(cases, chance, scale):
         count = chance.between(1, 30)
         k = mixed(chance, count, HANDLED, BODIES[:6], 3500, layout_of(chance, count))
         cases.spk("layout", k.bytes, questions(chance, k.segments, 80, BODIES))
+
+
+def framed(cases, chance, scale):
+    """Segments in one frame or in several, asked in each of them, in one that none has, and with FRAME left out."""
+    for i in range(8 * scale):
+        many = HANDLED * 3 + [chance.pick(UNSUPPORTED)]
+        for k in (mixed(chance, chance.between(1, 8), many, BODIES[:5]), planets(chance), overlaps(chance), chain(chance, chance.between(2, 9), "forked")):
+            k = reframed(chance, k, chance.pick([(1,), (17,), (13,), (1, 17), (1, 1, 1, 17), (17, 17, 17, 13), (1, 17, 13)]))
+            bodies = [s.numbers[0] for s in k.segments] + [0]
+            for frame in ("", "17", "1", "13", "-5"):
+                asked = questions(chance, k.segments, 60, bodies)
+                cases.spk("framed", k.bytes, asked, matrix=eclip() if i % 2 else turn(chance), note=f"framed {frame}".strip())
 
 
 def by_number(cases, chance, scale):
@@ -192,7 +206,7 @@ def large(cases, chance):
     for data_type in (9, 13):
         k = Kernel("spk", [states(chance, (399, 3, 1, data_type), 1000, 7.0, "plain")])
         cases.spk(f"type {data_type}", k.bytes, questions(chance, k.segments, 400, BODIES))
-    k = mixed(chance, 10, HANDLED, BODIES[:5])
+    k = mixed(chance, 10, HANDLED, BODIES[:5], frames=(1,))
     cases.spk("full", k.bytes, questions(chance, k.segments, 3640, BODIES[:6]))
     cases.spk("full", k.bytes, questions(chance, k.segments, 3640, BODIES[:6]), matrix=eclip())
     k = pck_mixed(chance, 10, [2])
@@ -282,6 +296,7 @@ def main():
     families = [lambda c: accepted_spk(cases, c, scale), lambda c: chains(cases, c, scale), lambda c: large(cases, c), lambda c: wrapped(cases, c)]
     families += [lambda c: accepted_pck(cases, c, scale), lambda c: refusals(cases, c, scale), lambda c: programs(cases, c)]
     families += [lambda c: written(cases, c, scale), lambda c: by_number(cases, c, scale), lambda c: of_others(cases, c, 20 * scale), lambda c: wide(cases, c)]
+    families += [lambda c: framed(cases, c, scale)]
     for i, family in enumerate(families):
         family(Chance(seed * 1000 + i))
     cases.close()

@@ -3,13 +3,13 @@
 
 Writes what the program `replay_cases` (FOLDER is crates/replay_cases) is run on: data/0.cases, data/1.cases, ... of at most 65,536
 bytes each, their names in `args`, and `stdout`: the lines that it must print. A file is a run of blocks: four words
-of four bytes (0 ask, 1 ask turned, 2 orient, 3 segments alone, 4 those of a PCK, which tests/vectors/alone.py adds
-after these with the second program's lines; the lengths of the kernel that the table is made from,
-0 if it is the kernel itself, of the kernel and of the questions), 72 bytes of matrix if turned, and the three parts;
-all little-endian. A block's lines are what `ask` or `orient` prints about it, or `forward S` of a segment alone. The
-kernels are small ones of gen.py's kinds: every type, every way, chains of 32 and 33 steps, tables of another kernel,
-one kernel for each opening refusal, and one whose questions are no records. Answers are the Rust's; refusals as in
-compare.py.
+of four bytes (0 ask, 1 ask in a frame, 2 orient, 3 segments alone, 4 those of a PCK; the lengths of the kernel that the
+table is made from, 0 if it is the kernel itself, of the kernel and of the questions), if in a frame 72 bytes of matrix and
+the frame's number in four, and the three parts; all little-endian. A block's lines are what `ask` or `orient` prints about
+it, or `forward S` of a segment alone. The kernels are small ones of gen.py's kinds: every type, every way, chains of 32 and
+33 steps, tables of another kernel, one kernel for each opening refusal, and one whose questions are no records. Answers are
+the Rust's; refusals as in compare.py. Segments of a PCK alone, and segments in other frames than 1, are added after these
+with the second program's lines: tests/vectors/alone.py, tests/vectors/frames.py.
 """
 
 import argparse
@@ -62,7 +62,7 @@ def answered(cases, chance):
         k = system(chance)
         cases.spk("system", k.bytes, questions(chance, k.segments, 220, [1, 2, 3, 10, 199, 301, 399, 0, 4]))
     for i in range(6):
-        k = mixed(chance, 9, TYPES, BODIES[:5], 600, Layout(cut=True))
+        k = mixed(chance, 9, TYPES, BODIES[:5], 600, Layout(cut=True), (1,) if i % 3 else (1, 1, 17, -3))
         cases.spk("mixed", k.bytes, questions(chance, k.segments, 180, BODIES), matrix=(None, eclip(), turn(chance))[i % 3])
     for steps in (32, 33):
         asked = b"".join(ask_record(1000, c, 50.0) for c in (0, 1001, 1002, 2000)) + ask_record(0, 1000, 50.0)

@@ -189,14 +189,14 @@ def epoch(chance, s):
     return low + (high - low) * chance.unit()
 
 
-def mixed(chance, count, types, bodies=BODIES, room=6400, layout=None):
-    """An SPK kernel of so many random segments of these types."""
+def mixed(chance, count, types, bodies=BODIES, room=6400, layout=None, frames=(1, 1, 17, -3)):
+    """An SPK kernel of so many random segments of these types and in these frames."""
     share = room // count
     made = []
     for _ in range(count):
         target = chance.pick(bodies)
         others = [b for b in bodies if b != target or chance.one_in(20)]
-        head = (target, chance.pick(others), chance.pick([1, 1, 17, -3]))
+        head = (target, chance.pick(others), chance.pick(frames))
         made.append(segment(chance, head, chance.pick(types), share))
     return Kernel("spk", made, layout)
 
@@ -246,6 +246,13 @@ def planets(chance):
     kept += [chance.pick(kept) for _ in range(chance.below(4))]
     kinds = [2, 2, 3, 9, 13] * 8 + [5]
     return Kernel("spk", [wide_segment(chance, t, c, chance.pick(kinds), 250) for t, c in kept])
+
+
+def reframed(chance, kernel, frames):
+    """An SPK kernel of the same segments in these frames."""
+    for s in kernel.segments:
+        s.numbers[2] = chance.pick(frames)
+    return Kernel("spk", kernel.segments, kernel.layout)
 
 
 def pck_mixed(chance, count, types, room=6400, layout=None):

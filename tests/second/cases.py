@@ -19,7 +19,7 @@ def numbered(lines, records):
         yield line if rest.startswith("refused") else f"{number} forward {segment} {rest}"
 
 
-def block_lines(program, origin, kernel, questions, matrix):
+def block_lines(program, origin, kernel, questions, turn):
     """What is said of the questions to a kernel with the table of `origin`."""
     table = second.open_pck(origin) if program in ("orient", "alone_pck") else second.open_spk(origin)
     if isinstance(table, second.Refusal):
@@ -28,7 +28,8 @@ def block_lines(program, origin, kernel, questions, matrix):
     if records is None:
         return [second.refused_line(second.Refusal(19, 0))]
     if program == "ask":
-        return second.ask_lines(kernel, table, records, second.matrix_rows(matrix) if matrix else None)
+        framed = (second.signed32(turn, 72), second.matrix_rows(turn[:72])) if turn else ()
+        return second.ask_lines(kernel, table, records, *framed)
     if program == "orient":
         return second.orient_lines(kernel, table, records)
     if program == "alone_pck":
@@ -37,15 +38,15 @@ def block_lines(program, origin, kernel, questions, matrix):
 
 
 def blocks(data):
-    """Program, table's kernel, kernel, questions and matrix of each block."""
+    """Program, table's kernel, kernel, questions, and matrix with frame, of each block."""
     at = 0
     while at < len(data):
         kind, *lengths = struct.unpack_from("<4I", data, at)
-        places = [at + 16, at + 16 + (72 if kind == 1 else 0)]
+        places = [at + 16, at + 16 + (76 if kind == 1 else 0)]
         for n in lengths:
             places.append(places[-1] + n)
-        matrix, origin, kernel, questions = (data[a:b] for a, b in zip(places, places[1:]))
-        yield PROGRAMS[kind], origin or kernel, kernel, questions, matrix
+        turn, origin, kernel, questions = (data[a:b] for a, b in zip(places, places[1:]))
+        yield PROGRAMS[kind], origin or kernel, kernel, questions, turn
         at = places[-1]
 
 

@@ -5,17 +5,19 @@ Written from the rules alone, for plainness and not for speed.  Numbers in
 words below (refusal 9, 14 and so on) are those of RULES, "Refusals".
 
     second.py listing < KERNEL
-    second.py ask KERNEL QUESTIONS [MATRIX]
+    second.py ask KERNEL QUESTIONS [MATRIX [FRAME]]
     second.py orient KERNEL QUESTIONS
     second.py alone KERNEL NUMBERS-AND-EPOCHS
     second.py statement < USAGE
 
 As a library: open_spk, open_pck, state, state_in, orientation, alone,
-alone_pck, name, turn, turn_back, statement.  A table is plain data: anybody
+alone_pck, name, turn, turn_back, frame_number, statement.  A table is plain data: anybody
 may build or change one.
 """
 
 import math
+import os
+import re
 import struct
 import sys
 from collections import namedtuple
@@ -29,6 +31,7 @@ MOST_SEGMENTS = 4096  # the places that a program lends; a small host has 256, s
 LARGEST_WINDOW = 32
 MOST_STEPS = 32
 LARGEST_INPUT = 65536
+LONGEST_ARGUMENT = 4096
 MOST_SUPPLIERS = 512
 SUMMARY_LENGTH = 40
 NAME_LENGTH = 40
@@ -49,9 +52,9 @@ CHAINED = "chained"
 # A refusal: its number and detail in RULES, "Refusals".
 Refusal = namedtuple("Refusal", "number detail")
 
-# A state's answer: its way, the segment's number where the way has one, and
-# the six numbers.
-Answer = namedtuple("Answer", "way segment six")
+# A state's answer: its way, the segment's number where the way has one, the
+# six numbers, and the set of the frames that they are in.
+Answer = namedtuple("Answer", "way segment six frames")
 
 # A PCK answer: reference frame and the six numbers.
 Orientation = namedtuple("Orientation", "frame six")
@@ -589,7 +592,7 @@ def state(kernel, table, memory, target, center, et):
     The memory is a segment's number, or None.
     """
     if target == center:
-        return Answer(SAME, None, ZEROS), memory
+        return Answer(SAME, None, ZEROS, frozenset([J2000])), memory
     if table.count > MOST_SEGMENTS:
         return Refusal(14, 0), memory
     if math.isnan(et):
@@ -613,36 +616,43 @@ def state(kernel, table, memory, target, center, et):
 def _answer(kernel, table, number, target, center, et):
     """Forward with the segment chosen, else reversed, else chained."""
     if number is not None:
-        six = evaluate(kernel, SPK, table.segment(number), number, et)
-        return Answer(FORWARD, number, six)
+        segment = table.segment(number)
+        six = evaluate(kernel, SPK, segment, number, et)
+        return Answer(FORWARD, number, six, frozenset([segment.frame]))
     number = last_covering(table, center, target, et)
     if number is not None:
-        six = evaluate(kernel, SPK, table.segment(number), number, et)
-        return Answer(REVERSED, number, tuple(-x for x in six))
-    to_target = towards_zero(kernel, table, target, et)
-    to_center = towards_zero(kernel, table, center, et)
+        segment = table.segment(number)
+        six = tuple(-x for x in evaluate(kernel, SPK, segment, number, et))
+        return Answer(REVERSED, number, six, frozenset([segment.frame]))
+    to_target, of_target = towards_zero(kernel, table, target, et)
+    to_center, of_center = towards_zero(kernel, table, center, et)
     return Answer(CHAINED, None,
-                  tuple(a - b for a, b in zip(to_target, to_center)))
+                  tuple(a - b for a, b in zip(to_target, to_center)),
+                  frozenset(of_target | of_center))
 
 
 def towards_zero(kernel, table, body, et):
-    """A body's state to body 0, in at most 32 steps."""
+    """A body's state to body 0, in at most 32 steps, and the frames of the
+    segments that the steps took."""
     total = ZEROS
+    frames = set()
     current = body
     for _ in range(MOST_STEPS):
         if current == 0:
-            return total
-        six, current = step(kernel, table, current, et)
+            return total, frames
+        six, segment = step(kernel, table, current, et)
         total = tuple(a + b for a, b in zip(total, six))
+        frames.add(segment.frame)
+        current = segment.center
         if current == body:
             raise Refused(11, body)
     if current == 0:
-        return total
+        return total, frames
     raise Refused(11, body)
 
 
 def step(kernel, table, current, et):
-    """The state and center of the segment that the current body takes."""
+    """The segment that the current body takes, with its state."""
     taken = None
     for number in range(table.count):
         segment = table.segment(number)
@@ -650,9 +660,9 @@ def step(kernel, table, current, et):
             continue
         six = evaluate(kernel, SPK, segment, number, et)
         if segment.center == 0:
-            return six, 0
+            return six, segment
         if taken is None:
-            taken = six, segment.center
+            taken = six, segment
     if taken is None:
         raise Refused(11, current)
     return taken
@@ -711,19 +721,36 @@ def invert_sxform(m):
     return sxform_from_rotation(rotation, derivative)
 
 
+def turned(answer, frame, rows):
+    """An answer in another frame, or refusals 21 and 15; in the frame of its
+    own numbers as it stands."""
+    if len(answer.frames) != 1:
+        raise Refused(21)
+    own, = answer.frames
+    if own == frame:
+        return answer
+    if (own, frame) == (J2000, ECLIPJ2000):
+        six = turn(rows, answer.six)
+    elif (own, frame) == (ECLIPJ2000, J2000):
+        six = turn_back(rows, answer.six)
+    else:
+        raise Refused(21)
+    if not all_finite(six):
+        raise Refused(15)
+    return answer._replace(six=six, frames=frozenset([frame]))
+
+
 def state_in(kernel, table, memory, target, center, et, frame=None,
              rows=None):
-    """As state, the answer given in a frame: None or J2000 as it stands,
-    ECLIPJ2000 turned by the matrix."""
+    """As state, the answer given in the frame of a number; None is as it
+    stands."""
     answer, memory = state(kernel, table, memory, target, center, et)
-    if frame is None or frame == J2000 or isinstance(answer, Refusal):
+    if frame is None or isinstance(answer, Refusal):
         return answer, memory
-    if frame != ECLIPJ2000:
-        raise ValueError("a state is given in J2000 or ECLIPJ2000")
-    six = turn(rows, answer.six)
-    if not all_finite(six):
-        return Refusal(15, 0), memory
-    return answer._replace(six=six), memory
+    try:
+        return turned(answer, frame, rows), memory
+    except Refused as refused:
+        return refused.refusal, memory
 
 
 # PCK
@@ -826,18 +853,36 @@ def question_records(program, contents):
     return found
 
 
+def frame_argument(word):
+    """The text of the argument FRAME; one that is too long is no number."""
+    return word if len(os.fsencode(word)) <= LONGEST_ARGUMENT else ""
+
+
+def frame_number(text):
+    """The frame that an argument names, or None where it is no number."""
+    if not re.fullmatch("-?[0-9]+", text):
+        return None
+    digits = text.lstrip("-").lstrip("0") or "0"
+    if len(digits) > len(str(2 ** 31)):
+        return None
+    number = -int(digits) if text[0] == "-" else int(digits)
+    return number if -2 ** 31 <= number < 2 ** 31 else None
+
+
 def matrix_rows(contents):
     numbers = struct.unpack("<9d", contents)
     return [list(numbers[3 * i:3 * i + 3]) for i in range(3)]
 
 
-def answer_lines(program, kernel, questions, matrix=None):
-    """The lines of ask, orient and alone."""
+def answer_lines(program, kernel, questions, matrix=None, frame="17"):
+    """The lines of ask, orient and alone; the frame is the argument's text."""
     files = [kernel, questions] + ([] if matrix is None else [matrix])
     if any(len(contents) > LARGEST_INPUT for contents in files):
         return [refused_line(Refusal(18, 0))]
     if matrix is not None and len(matrix) != 72:
         raise Misused("the matrix file has %d bytes, not 72" % len(matrix))
+    if matrix is not None and frame_number(frame) is None:
+        raise Misused("the frame is no number of 32 bits")
     table = open_pck(kernel) if program == "orient" else open_spk(kernel)
     if isinstance(table, Refusal):
         return [refused_line(table)]
@@ -845,16 +890,17 @@ def answer_lines(program, kernel, questions, matrix=None):
     if records is None:
         return [refused_line(Refusal(19, 0))]
     if program == "ask":
-        rows = None if matrix is None else matrix_rows(matrix)
-        return ask_lines(kernel, table, records, rows)
+        if matrix is None:
+            return ask_lines(kernel, table, records)
+        return ask_lines(kernel, table, records, frame_number(frame),
+                         matrix_rows(matrix))
     if program == "orient":
         return orient_lines(kernel, table, records)
     return alone_lines(kernel, table, records)
 
 
-def ask_lines(kernel, table, records, rows):
+def ask_lines(kernel, table, records, frame=None, rows=None):
     lines, memory = [], None
-    frame = None if rows is None else ECLIPJ2000
     for number, (target, center, et) in enumerate(records):
         answer, memory = state_in(kernel, table, memory, target, center, et,
                                   frame, rows)
@@ -919,20 +965,21 @@ def read_file(path):
 
 def run(arguments):
     """The lines of a call's standard output."""
-    counts = {"listing": (0,), "ask": (2, 3), "orient": (2,), "alone": (2,),
-              "statement": (0,)}
+    counts = {"listing": (0,), "ask": (2, 3, 4), "orient": (2,),
+              "alone": (2,), "statement": (0,)}
     if not arguments or arguments[0] not in counts:
         raise Misused("the first argument is listing, ask, orient, alone or "
                       "statement")
-    program, paths = arguments[0], arguments[1:]
-    if len(paths) not in counts[program]:
-        raise Misused("%s takes %s file names, not %d" % (
-            program, " or ".join(map(str, counts[program])), len(paths)))
+    program, words = arguments[0], arguments[1:]
+    if len(words) not in counts[program]:
+        raise Misused("%s takes %s arguments, not %d" % (
+            program, " or ".join(map(str, counts[program])), len(words)))
     if program == "listing":
         return listing_lines(sys.stdin.buffer.read())
     if program == "statement":
         return statement_lines(sys.stdin.buffer.read())
-    return answer_lines(program, *[read_file(path) for path in paths])
+    files = [read_file(path) for path in words[:3]]
+    return answer_lines(program, *files, *map(frame_argument, words[3:]))
 
 
 def main(arguments):

@@ -232,6 +232,8 @@ class EveryRefusal(Base):
                          ["refused 18 0"])
         self.refuses(second.statement(b"\0"), 19)
         self.refuses(second.statement(usage(range(513))), 20)
+        self.refuses(second.state_in(b"", Table(), None, 0, 0, 0.0, 13)[0],
+                     21)
         self.assertIsInstance(ask(*self.segment(constant(1.0)), 0.0), Answer)
 
 
@@ -711,7 +713,8 @@ class ChebyshevNumbers(Base):
     def test_radius_2(self):
         data = [1.0, 2.0] + [1.0, 2.0, 3.0] * 3 + [0.0, 10.0, 11.0, 1.0]
         got = self.ask(build([Piece(data)]), 399, 3, 2.0)
-        self.assertEqual(got, Answer("forward", 0, (0.5,) * 3 + (4.0,) * 3))
+        self.assertEqual(got, Answer("forward", 0, (0.5,) * 3 + (4.0,) * 3,
+                                     {1}))
 
     def test_one_coefficient(self):
         self.same_bits(second.chebyshev([-0.0], NAN), (-0.0, 0.0))
@@ -1229,7 +1232,7 @@ class Memory(Base):
         # A forged mark: the table decides, not the overlap.
         self.table.segments[2].marked = True
         got, memory = self.ask_with(2, 4, 5)
-        self.assertEqual(got, Answer("forward", 2, (3.0,) + (0.0,) * 5))
+        self.assertEqual(got, Answer("forward", 2, (3.0,) + (0.0,) * 5, {1}))
         self.assertEqual(memory, 2)
         got, memory = self.ask_with(0, 4, 5)
         self.assertEqual((got.segment, memory), (3, 0))
@@ -1383,6 +1386,10 @@ class Chains(Base):
 
 class Frames(Base):
     ROWS = [[0.0, 1.0, 0.0], [-1.0, 0.0, 0.0], [0.0, 0.0, 1.0]]
+    NANS = [[NAN] * 3] * 3
+    SIX = (1.0, 2.0, 3.0, 4.0, 5.0, 6.0)
+    TURNED = (2.0, -1.0, 3.0, 5.0, -4.0, 6.0)
+    BACK = (-2.0, 1.0, 3.0, -5.0, 4.0, 6.0)
 
     def test_turn(self):
         self.assertEqual(second.turn(self.ROWS, (1, 2, 3, 4, 5, 6)),
@@ -1396,35 +1403,209 @@ class Frames(Base):
         product = second.matmul3(ones, [[-0.0] * 3] * 3)
         self.same_bits([x for row in product for x in row], (0.0,) * 9)
 
-    def test_state_in(self):
-        kernel = build([Piece(constant_3((1.0, 2.0, 3.0, 4.0, 5.0, 6.0)),
+    def kernel(self, *pieces, six=SIX):
+        """A kernel of type 3 segments, each a target, a center and a
+        frame."""
+        return build([Piece(constant_3(six), target=target, center=center,
+                            frame=frame, type_number=3)
+                      for target, center, frame in pieces])
+
+    def asked(self, kernel, target, center, frame=None, rows=ROWS, et=1.0):
+        return second.state_in(kernel, self.opens(kernel), None, target,
+                               center, et, frame, rows)[0]
+
+    def test_frame_1(self):
+        kernel = self.kernel((399, 3, 1))
+        for frame in (None, 1):
+            self.assertEqual(self.asked(kernel, 399, 3, frame, self.NANS),
+                             Answer("forward", 0, self.SIX, {1}))
+        self.assertEqual(self.asked(kernel, 399, 3, 17),
+                         Answer("forward", 0, self.TURNED, {17}))
+        self.assertEqual(self.asked(kernel, 3, 399, 17), Answer(
+            "reversed", 0, tuple(-x for x in self.TURNED), {17}))
+        for frame in (13, -5, 0, 2 ** 31 - 1, -2 ** 31):
+            self.refuses(self.asked(kernel, 399, 3, frame), 21)
+
+    def test_frame_17(self):
+        kernel = self.kernel((399, 3, 17))
+        for frame in (None, 17):
+            self.assertEqual(self.asked(kernel, 399, 3, frame, self.NANS),
+                             Answer("forward", 0, self.SIX, {17}))
+        self.assertEqual(self.asked(kernel, 399, 3, 1),
+                         Answer("forward", 0, self.BACK, {1}))
+        self.assertEqual(self.asked(kernel, 3, 399, 1), Answer(
+            "reversed", 0, tuple(-x for x in self.BACK), {1}))
+        for frame in (13, -5, 0):
+            self.refuses(self.asked(kernel, 399, 3, frame), 21)
+
+    def test_frame_13(self):
+        for own in (13, -5, 0, 2 ** 31 - 1, -2 ** 31):
+            kernel = self.kernel((399, 3, own))
+            for frame in (None, own):
+                self.assertEqual(
+                    self.asked(kernel, 399, 3, frame, self.NANS),
+                    Answer("forward", 0, self.SIX, {own}))
+            for frame in (1, 17, own ^ 2):
+                self.refuses(self.asked(kernel, 399, 3, frame), 21)
+
+    def test_forward_and_back(self):
+        # Any numbers: each sum starts with its first product.
+        rows = [[0.1, 0.2, 0.3], [0.4, 0.5, 0.6], [0.7, 0.8, 0.9]]
+        six = (1.1, 2.2, 3.3, 4.4, 5.5, 6.6)
+        for own, frame, matrix in ((1, 17, rows),
+                                   (17, 1, second.transpose(rows))):
+            got = self.asked(self.kernel((399, 3, own), six=six), 399, 3,
+                             frame, rows)
+            self.same_bits(got.six, [
+                row[0] * six[k] + row[1] * six[k + 1] + row[2] * six[k + 2]
+                for k in (0, 3) for row in matrix])
+
+    def test_minus_zero_stands(self):
+        # A turn by the matrix that leaves everything where it is would
+        # give +0.
+        one = [[1.0, 0.0, 0.0], [0.0, 1.0, 0.0], [0.0, 0.0, 1.0]]
+        six = (-0.0, 1.0, 0.0, 1.0, -0.0, -0.0)
+        for own in (1, 17, 13):
+            kernel = self.kernel((399, 3, own), six=six)
+            for frame in (None, own):
+                got = self.asked(kernel, 399, 3, frame, one)
+                self.same_bits(got.six, six)
+                got = self.asked(kernel, 3, 399, frame, one)
+                self.same_bits(got.six, [-x for x in six])
+        got = self.asked(self.kernel((399, 3, 17), six=six), 399, 3, 1, one)
+        self.same_bits(got.six, (0.0, 1.0, 0.0, 1.0, 0.0, 0.0))
+
+    def test_chains(self):
+        twice = tuple(2 * x for x in self.SIX)
+        there = tuple(2 * x for x in self.TURNED)
+        back = tuple(2 * x for x in self.BACK)
+        for a, b, wanted in (
+                (1, 1, {None: twice, 1: twice, 17: there, 13: None}),
+                (17, 17, {None: twice, 1: back, 17: twice, 13: None}),
+                (13, 13, {None: twice, 1: None, 17: None, 13: twice}),
+                (1, 17, {None: twice, 1: None, 17: None, 13: None}),
+                (17, 13, {None: twice, 1: None, 17: None, 13: None})):
+            for first, then in ((a, b), (b, a)):
+                kernel = self.kernel((399, 3, first), (3, 0, then))
+                for frame, six in wanted.items():
+                    got = self.asked(kernel, 399, 0, frame)
+                    if six is None:
+                        self.refuses(got, 21)
+                        continue
+                    frames = {a, b} if frame is None else {frame}
+                    self.assertEqual(got, Answer("chained", None, six,
+                                                 frames))
+
+    def test_both_walks_of_a_chain(self):
+        # The target's steps are in one frame, the center's in another.
+        kernel = self.kernel((399, 0, 1), (301, 0, 17))
+        self.assertEqual(self.asked(kernel, 399, 301),
+                         Answer("chained", None, (0.0,) * 6, {1, 17}))
+        for frame in (1, 17, 13):
+            self.refuses(self.asked(kernel, 399, 301, frame), 21)
+        kernel = self.kernel((399, 0, 17), (301, 0, 17))
+        self.same_bits(self.asked(kernel, 399, 301, 17).six, (0.0,) * 6)
+        self.assertEqual(self.asked(kernel, 399, 301, 1).frames, {1})
+
+    def test_numbers_that_cancel_still_count(self):
+        # A step whose numbers are all zeros, or are taken off again.
+        kernel = build([Piece(constant_3((0.0,) * 6), target=399, center=3,
+                              frame=17, type_number=3),
+                        Piece(constant_3(self.SIX), target=3, center=0,
                               type_number=3)])
-        table = self.opens(kernel)
-        for frame in (None, second.J2000):
-            got, memory = second.state_in(kernel, table, None, 399, 3, 1.0,
-                                          frame, [[NAN] * 3] * 3)
-            self.assertEqual(got.six, (1.0, 2.0, 3.0, 4.0, 5.0, 6.0))
-            self.assertEqual(memory, 0)
-        got, memory = second.state_in(kernel, table, None, 399, 3, 1.0,
-                                      second.ECLIPJ2000, self.ROWS)
-        self.assertEqual(got, Answer("forward", 0,
-                                     (2.0, -1.0, 3.0, 5.0, -4.0, 6.0)))
-        self.assertEqual(memory, 0)
+        self.refuses(self.asked(kernel, 399, 0, 1), 21)
+        kernel = self.kernel((399, 3, 1), (301, 3, 1), (3, 0, 17))
+        self.refuses(self.asked(kernel, 399, 301, 1), 21)
 
-    def test_segment_frame_is_no_matter(self):
-        kernel = build([Piece(constant_3((1.0, 2.0, 3.0, 4.0, 5.0, 6.0)),
-                              type_number=3, frame=17)])
-        table = self.opens(kernel)
-        got, _ = second.state_in(kernel, table, None, 399, 3, 1.0,
-                                 second.ECLIPJ2000, self.ROWS)
-        self.assertEqual(got.six, (2.0, -1.0, 3.0, 5.0, -4.0, 6.0))
+    def test_passed_over(self):
+        # Evaluated and passed over: another that covers, before the one
+        # about 0; and one after the first, where none is about 0.
+        kernel = self.kernel((399, 3, 17), (399, 0, 1), (301, 0, 1))
+        self.assertEqual(self.asked(kernel, 399, 301, 17).frames, {17})
+        self.assertEqual(self.asked(kernel, 399, 301).frames, {1})
+        kernel = self.kernel((399, 3, 17), (399, 4, 1), (3, 0, 17))
+        self.assertEqual(self.asked(kernel, 399, 0, 17).six,
+                         tuple(2 * x for x in self.SIX))
+        # Not even evaluated: after the one about 0.
+        kernel = self.kernel((399, 0, 1), (399, 3, 17), (301, 0, 1))
+        self.assertEqual(self.asked(kernel, 399, 301).frames, {1})
+        # Of the pair, and not the one that is chosen.
+        kernel = self.kernel((399, 3, 1), (399, 3, 17))
+        self.assertEqual(self.asked(kernel, 399, 3, 17),
+                         Answer("forward", 1, self.SIX, {17}))
 
-    def test_same_body_is_turned(self):
+    def test_same_body(self):
         minus = [[-1.0, -1.0, -1.0]] + [[0.0] * 3] * 2
-        got, _ = second.state_in(b"", Table(), None, 3, 3, NAN,
-                                 second.ECLIPJ2000, minus)
-        self.assertEqual(got.way, "same")
+        for frame in (None, 1):
+            got, _ = second.state_in(b"", Table(), None, 3, 3, NAN, frame,
+                                     minus)
+            self.same_bits(got.six, (0.0,) * 6)
+            self.assertEqual(got.frames, {1})
+        got, _ = second.state_in(b"", Table(), None, 3, 3, NAN, 17, minus)
         self.same_bits(got.six, (-0.0, 0.0, 0.0, -0.0, 0.0, 0.0))
+        for frame in (13, -5, 0):
+            got, memory = second.state_in(b"", Table(4097), 7, 3, 3, NAN,
+                                          frame, minus)
+            self.refuses(got, 21)
+            self.assertEqual(memory, 7)
+        # Whatever frames the segments have.
+        kernel = self.kernel((3, 0, 17))
+        self.assertEqual(self.asked(kernel, 3, 3, 17), Answer(
+            "same", None, second.turn(self.ROWS, (0.0,) * 6), {17}))
+
+    def test_state_then_21_then_15(self):
+        pieces = [Piece(constant(1.0, radius=0.0), frame=13),
+                  Piece(constant(INF), target=5, frame=13),
+                  Piece(constant(1.0), target=6, frame=13),
+                  Piece(constant(1.0), target=7, frame=17),
+                  Piece(constant(1.0), target=7, frame=17, first=20.0,
+                        last=30.0, type_number=1)]
+        kernel = build(pieces)
+        for question, refusal in (((399, 3, 1.0), Refusal(13, 0)),
+                                  ((399, 3, NAN), Refusal(10, 0)),
+                                  ((8, 3, 1.0), Refusal(11, 8)),
+                                  ((7, 3, 25.0), Refusal(12, 1)),
+                                  ((5, 3, 1.0), Refusal(15, 0)),
+                                  ((6, 3, 1.0), Refusal(21, 0)),
+                                  ((7, 3, 1.0), Refusal(15, 0))):
+            target, center, et = question
+            self.assertEqual(
+                self.asked(kernel, target, center, 1, self.NANS, et), refusal)
+        table = self.opens(kernel)
+        table.count = 4097
+        got, _ = second.state_in(kernel, table, None, 6, 3, 1.0, 1, self.NANS)
+        self.refuses(got, 14)
+
+    def test_memory_is_the_same_with_a_frame(self):
+        kernel = self.kernel((399, 3, 13))
+        for frame in (None, 13, 1, 17):
+            _, memory = second.state_in(kernel, self.opens(kernel), None, 399,
+                                        3, 1.0, frame, self.NANS)
+            self.assertEqual(memory, 0)
+
+    def test_frame_of_a_forged_table(self):
+        # The table's frame is believed, whatever the kernel's summary says.
+        kernel = self.kernel((399, 3, 1))
+        table = self.opens(kernel)
+        table.segments[0].frame = 17
+        got, _ = second.state_in(kernel, table, None, 399, 3, 1.0, 17,
+                                 self.NANS)
+        self.assertEqual(got.six, self.SIX)
+
+    def test_numbers_of_frames(self):
+        for text, number in (
+                ("17", 17), ("1", 1), ("0", 0), ("-0", 0), ("-5", -5),
+                ("013", 13), ("-0005", -5), ("0" * 5000, 0),
+                ("0" * 5000 + "17", 17), ("2147483647", 2147483647),
+                ("-2147483648", -2147483648), ("002147483647", 2147483647)):
+            self.assertEqual(second.frame_number(text), number)
+        for text in ("", "-", "+5", "--5", "5-", " 5", "5 ", "5\n", "0x11",
+                     "1.0", "1e3", "J2000", "1 7", "1_7", "\u0661", "\u00b2",
+                     "2147483648", "-2147483649", "4294967297", "9" * 5000,
+                     "-" + "9" * 5000, "18446744073709551633"):
+            self.assertIsNone(second.frame_number(text))
+
+    def test_same_body_may_be_15(self):
         got, _ = second.state_in(b"", Table(), 7, 3, 3, 0.0,
                                  second.ECLIPJ2000, [[INF] * 3] * 3)
         self.refuses(got, 15)
@@ -1742,14 +1923,14 @@ class Programs(Base):
                               stderr=subprocess.PIPE, check=False)
         return done.returncode, done.stdout, done.stderr
 
-    def with_files(self, program, *contents):
+    def with_files(self, program, *contents, words=()):
         with tempfile.TemporaryDirectory() as place:
             paths = []
             for i, one in enumerate(contents):
                 paths.append(os.path.join(place, "f%d" % i))
                 with open(paths[-1], "wb") as opened:
                     opened.write(one)
-            return self.run_program(program, *paths)
+            return self.run_program(program, *paths, *words)
 
     def test_listing_example(self):
         self.assertEqual(len(example()), 4096)
@@ -1809,6 +1990,67 @@ class Programs(Base):
         self.assertEqual(lines[0], "0 forward 0 " + " ".join(
             bits6((2.0, -1.0, 3.0, 5.0, -4.0, 6.0))))
         self.assertEqual(lines[1], "1 same" + " 0000000000000000" * 6)
+
+    def test_ask_frame(self):
+        pieces = [Piece(constant_3(Frames.SIX), target=frame, center=0,
+                        frame=frame, type_number=3) for frame in (1, 17, 13)]
+        asked = b"".join(self.question(*pair, 1.0) for pair in (
+            (1, 0), (17, 0), (13, 0), (0, 17), (1, 17), (5, 5), (5, 0)))
+        matrix = doubles([x for row in Frames.ROWS for x in row])
+
+        def six(numbers):
+            return " ".join(bits6(numbers))
+
+        plain = ["0 forward 0 " + six(Frames.SIX),
+                 "1 forward 1 " + six(Frames.SIX),
+                 "2 forward 2 " + six(Frames.SIX),
+                 "3 reversed 1 " + six([-x for x in Frames.SIX]),
+                 "4 chained " + six((0.0,) * 6), "5 same " + six((0.0,) * 6),
+                 "6 refused 11 5"]
+        refused = ["%d refused 21 0" % i for i in range(6)] + plain[6:]
+
+        def lines(**framed):
+            """The plain lines of some questions, 21 of the others."""
+            return [framed.get("q%d" % i, line)
+                    for i, line in enumerate(refused)]
+
+        ecliptic = lines(q0="0 forward 0 " + six(Frames.TURNED), q1=plain[1],
+                         q3=plain[3], q5=plain[5])
+        equator = lines(q0=plain[0], q1="1 forward 1 " + six(Frames.BACK),
+                        q3="3 reversed 1 " + six([-x for x in Frames.BACK]),
+                        q5=plain[5])
+        longest = "0" * 4094 + "17"
+        for words, expected in (((), ecliptic), (("17",), ecliptic),
+                                ((longest,), ecliptic),
+                                (("1",), equator), (("0001",), equator),
+                                (("13",), lines(q2=plain[2])),
+                                (("-5",), refused), (("0",), refused)):
+            self.assertEqual(
+                self.with_files("ask", build(pieces), asked, matrix,
+                                words=words),
+                (0, "".join(x + "\n" for x in expected).encode(), b""))
+        self.assertEqual(second.answer_lines("ask", build(pieces), asked),
+                         plain)
+
+    def test_ask_frame_that_is_none(self):
+        good, large = bytes(72), bytes(65537)
+        for text in ("", "x", "2147483648", "+17", "17 ", "0" * 4095 + "17"):
+            # Before the opening's refusal and 19, after 18 and the matrix.
+            for files in ((build([]), b"", good), (b"", b"", good),
+                          (build([]), b"x", good)):
+                code, out, error = self.with_files("ask", *files,
+                                                   words=(text,))
+                self.assertEqual((code, out), (2, b""))
+                self.assertIn(b"frame", error)
+            for files in ((large, b"", good), (b"", large, good),
+                          (b"", b"", large)):
+                self.assertEqual(self.with_files("ask", *files,
+                                                 words=(text,)),
+                                 (0, b"refused 18 0\n", b""))
+            code, out, error = self.with_files("ask", build([]), b"",
+                                               bytes(71), words=(text,))
+            self.assertEqual((code, out), (2, b""))
+            self.assertIn(b"matrix", error)
 
     def test_ask_memory_goes_on(self):
         # Segment 0 is marked; the later empty-handed questions leave it.
@@ -1920,7 +2162,7 @@ class Programs(Base):
 
     def test_misuse(self):
         for arguments in ([], ["list"], ["listing", "x"], ["ask"],
-                          ["ask", "a"], ["ask", "a", "b", "c", "d"],
+                          ["ask", "a"], ["ask", "a", "b", "c", "d", "e"],
                           ["orient", "a", "b", "c"], ["alone", "a"],
                           ["statement", "x"],
                           ["ask", "/nonexistent/a", "/nonexistent/b"]):

@@ -194,6 +194,7 @@ class Readable(unittest.TestCase):
             self.assertEqual(self.shown([f"0 {line}{SIX}"])[0], f"question 0: {want}, in J2000")
 
     def test_orientation(self):
+        self.assertEqual(self.shown([f"0 forward 3{SIX}"], frame=None)[0], "question 0: forward, segment 3, as it stands")
         self.assertEqual(self.shown([f"0 17{SIX}"])[0], "question 0: angles about reference frame ECLIPJ2000 (17)")
         self.assertIn("rad/s", self.shown([f"0 -99{SIX}"])[1])
 
@@ -225,7 +226,7 @@ class Readable(unittest.TestCase):
     def test_bad_lines_print_nothing(self):
         asked = path("tests", "sample", "de405.questions")
         bad = ["hello", f"1 same{SIX}", f"0 same{SIX[:-1]}", f"0 sideways{SIX}", f"0 forward{SIX}", "0 refused 18 0", f"0 same{SIX}\nrefused 2 0"]
-        bad += ["refused 11 499", f"0 same{SIX}\nrefused 10 0", "1 refused 10 0", "0 refused 21 0", "refused 20 0", "refused 21 0", "segments 2\n0 1 2 1 2 0000000000000000 0000000000000000 1 2 yes", "segments 1\n0 1 2", f"0 same{SIX}\n1 17{SIX}"]
+        bad += ["refused 11 499", f"0 same{SIX}\nrefused 10 0", "1 refused 10 0", "0 refused 22 0", "refused 20 0", "refused 22 0", "segments 2\n0 1 2 1 2 0000000000000000 0000000000000000 1 2 yes", "segments 1\n0 1 2", f"0 same{SIX}\n1 17{SIX}"]
         for line in bad:
             code, out, errors = tool("readable.py", data=line.encode() + b"\n")
             self.assertEqual((code, out), (1, b""), line)

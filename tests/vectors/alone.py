@@ -3,7 +3,7 @@
 
 data/alone.cases: blocks of kind 4 (tests/oracle/stored.py describes a block). The kernel is that of orient.py: every segment is asked, covering or
 not, and numbers that no segment has; then with the table of another kernel, whose trailers differ or which is shorter; then what is refused before
-any question. Run it after stored.py, whose lines the second program must give too.
+any question. Run it after stored.py, and frames.py after it.
 """
 import os
 import struct
@@ -59,25 +59,26 @@ def places():
     return found
 
 
-def main(folder):
-    with open(os.path.join(folder, "data", NAME), "wb") as f:
-        f.write(b"".join(blocks()))
+def add(name, made, folder="crates/replay_cases"):
+    """The blocks made as the last file of the folder, with the second program's lines, which must give the lines before them too."""
+    with open(os.path.join(folder, "data", name), "wb") as f:
+        f.write(b"".join(made))
     with open(os.path.join(folder, "args")) as f:
-        names = [name for name in f.read().split() if name != NAME]
+        names = [other for other in f.read().split() if other != name]
     with open(os.path.join(folder, "stdout")) as f:
         stored = f.read().splitlines()
     lines, before = [], 0
-    for name in names + [NAME]:
+    for each in names + [name]:
         before = len(lines)
-        with open(os.path.join(folder, "data", name), "rb") as f:
+        with open(os.path.join(folder, "data", each), "rb") as f:
             lines += [line for b in cases.blocks(f.read()) for line in cases.block_lines(*b)]
     if lines[:before] != stored[:before]:
         sys.exit("the stored lines are others")
-    for name, written in (("args", names + [NAME]), ("stdout", lines)):
-        with open(os.path.join(folder, name), "w") as f:
+    for file, written in (("args", names + [name]), ("stdout", lines)):
+        with open(os.path.join(folder, file), "w") as f:
             f.write("".join(text + "\n" for text in written))
     print(before, "lines before,", len(lines) - before, "added")
 
 
 if __name__ == "__main__":
-    main(*(sys.argv[1:] or ["crates/replay_cases"]))
+    add(NAME, blocks(), *sys.argv[1:])

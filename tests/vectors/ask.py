@@ -22,7 +22,7 @@ class Sample(Case):
     """The sample as a case of the comparison."""
 
     def __init__(self, paths):
-        self.number, self.family, self.program, self.expect, self.note, self.unfit = "0", "sample", "ask", "accepted", "", set()
+        self.number, self.family, self.program, self.expect, self.note, self.unfit, self.framed = "0", "sample", "ask", "accepted", "", set(), False
         self.paths = dict(zip(("kernel", "questions", "matrix"), paths))
 
     def path(self, suffix):

@@ -17,6 +17,7 @@ use Rattle.ask_text.proofs.open as m-open
 use Rattle.ask_text.proofs.put_answer as m-put-answer
 use Rattle.ask_text.proofs.room as m-room
 use Rattle.ask_text.proofs.put_text as m-put-text
+use Rattle.ask_text.proofs.frame_named as m-frame-named
 use Rattle.ask_text.proofs.put_output as m-put-output
 
 module _ {M : Type 1} (𝓤 : URA M) (H : Heap 𝓤) (A : Atoms 𝓤) (mem : Memory → SProp 𝓤) (run : Routine → Fun 𝓤) where
@@ -40,6 +41,9 @@ module _ {M : Type 1} (𝓤 : URA M) (H : Heap 𝓤) (A : Atoms 𝓤) (mem : Mem
 
   pub two-put-text : Determined 𝓤 m-put-text.ended (m-put-text.clauses 𝓤 H A mem run)
   two-put-text κs a g r r' ws ws' = first-alike 𝓤 (two-buffers (ws .1))
+
+  pub two-frame-named : Determined 𝓤 m-frame-named.ended (m-frame-named.clauses 𝓤 H A mem run)
+  two-frame-named κs a g r r' ws ws' = equal 𝓤 refl
 
   pub two-put-output : Determined 𝓤 m-put-output.ended (m-put-output.clauses 𝓤 H A mem run)
   two-put-output κs a g r r' ws ws' = first-alike 𝓤 (two-buffers (ws .1))

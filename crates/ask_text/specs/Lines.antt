@@ -41,7 +41,7 @@ wayLine i (Refused r) s = numberedRefusalText i r
 -- The line of answer i.
 unfoldable pub answerText : ℕ → Answer → List ℕ
 unfolding wayLine
-answerText i a = wayLine i (a .way) (a .state)
+answerText i a = wayLine i (a .way) (a .given .state)
 
 -- The longest word has 10 bytes. So many has a line at most: two numbers in decimal, a word, six numbers and the newline.
 abbrev pub wordRoom : ℕ

@@ -1,6 +1,7 @@
 // A file of questions put to an SPK kernel: its records, a line for each answer, and the whole text, put into a buffer that the caller lends.
 ghost use mathlib.Core.Path.{_≡_};
 ghost use Prim.Native.Nat.{_+_, _*_, _≤_, _<_};
+ghost use lib.IntN.{pos, negℤ};
 ghost use lib.ListN.{length};
 ghost use Rattle.daf.specs.declared.Family.the-variants.{Spk};
 ghost use Rattle.lines.specs.Written.{Written};
@@ -14,10 +15,10 @@ ghost use Rattle.lines.specs.Room.{capped};
 ghost use Rattle.admission.specs.Order.{runPlan, openedFor};
 ghost use Rattle.ask_text.specs.Records.{questionSize, questionMark, questionAt, rowsOf};
 ghost use Rattle.ask_text.specs.Lines.{wordLine, namedLine, answerText, wordRoom, answerRoom};
+ghost use Rattle.ask_text.specs.FrameText.{isDigit, largest, digitsIn, above, below, frameNamed, isNone, frameNumber};
 ghost use Rattle.ask_text.specs.Text.{answersText, askText, unfit, askOutput, askRoom};
 ghost use Rattle.ask_text.specs.Steps.{turnedFrom, answersBy, plannedText};
 use daf::Family;
-use frame::NaifFrame;
 use frame::State;
 use opening::Opened;
 use opening::Plan;
@@ -31,6 +32,18 @@ use spk::Question;
 use spk::Wanted;
 use spk::Way;
 use table::Table;
+
+// A run of decimal digits: the number that it stands for, up to 2^31.
+enum Digits {
+    Value(u32),
+    NoValue,
+}
+
+// What the argument FRAME says.
+pub enum FrameArgument {
+    Number(i32),
+    NoNumber,
+}
 
 // A question record has 18 bytes and begins with the mark A5 5B.
 const SIZE: usize = 18;
@@ -140,7 +153,8 @@ pub fn put_answer(out: &mut [u8], at: usize, i: usize, answer: Answer) -> usize
     ensures { λ r. ⌜ r ≤ at + answerRoom ⌝ }
 {
     let way = answer.way;
-    let state = answer.state;
+    let given = answer.given;
+    let state = given.state;
     match way {
         Way::Same => put_word_line(out, at, i, b" same", state),
         Way::Forward(segment) => put_named_line(out, at, i, b" forward ", segment, state),
@@ -260,15 +274,15 @@ pub fn room(bytes: usize) -> usize
 }
 
 // Puts what a kernel replies to a file of questions at the start of a buffer, whatever the length of the files: a refusal, or a line each. With a matrix
-// of 72 bytes each state is asked in ECLIPJ2000.
-pub fn put_text(out: &mut [u8], kernel: &[u8], asked: &[u8], matrix: &[u8]) -> usize
+// of 72 bytes each state is asked in the frame of this number.
+pub fn put_text(out: &mut [u8], kernel: &[u8], asked: &[u8], matrix: &[u8], frame: i32) -> usize
     requires { ⌜ askRoom (length (now asked)) ≤ length (now out) ⌝ }
-    ensures { λ r. ⌜ Written (now (out .entry)) 0 (askText (now (kernel .entry)) (now (asked .entry)) (now (matrix .entry))) (now (out .exit)) r ⌝ }
+    ensures { λ r. ⌜ Written (now (out .entry)) 0 (askText (now (kernel .entry)) (now (asked .entry)) (now (matrix .entry)) frame) (now (out .exit)) r ⌝ }
     ensures { λ r. ⌜ r ≤ askRoom (length (now (asked .entry))) ⌝ }
 {
     let p = plan(kernel, asked);
     if matrix.len() == admission::MATRIX {
-        let to = Wanted::In(NaifFrame::EclipJ2000);
+        let to = Wanted::In(frame);
         put_planned(out, kernel, asked, p, to, rows(matrix))
     } else {
         let none = [[0.0; 3]; 3];
@@ -276,24 +290,142 @@ pub fn put_text(out: &mut [u8], kernel: &[u8], asked: &[u8], matrix: &[u8]) -> u
     }
 }
 
-// A matrix file is given, and it is none.
-fn is_unfit(turned: bool, matrix: &[u8]) -> bool
-    ensures { λ r. ⌜ r ≡ unfit turned (now (matrix .entry)) ⌝ }
+// A decimal digit.
+fn is_digit(c: u8) -> bool
+    ensures { λ r. ⌜ r ≡ isDigit c ⌝ }
 {
-    turned && matrix.len() != admission::MATRIX
+    47 < c && c < 58
 }
 
-// Puts what the program prints: 18 where a file is over its limit; nothing where a matrix file is given that is none; else that reply.
-pub fn put_output(out: &mut [u8], kernel: &[u8], asked: &[u8], turned: bool, matrix: &[u8]) -> usize
+// The number that a run of digits stands for. Past 2^31 it ends, since no digit makes the number smaller.
+fn digits_in(text: &[u8]) -> Digits
+    ensures { λ r. ⌜ r ≡ digitsIn (now (text .entry)) ⌝ }
+{
+    let mut v: u64 = 0;
+    let mut i: usize = 0;
+    while i < text.len() {
+        let c = text[i];
+        if !is_digit(c) {
+            return Digits::NoValue;
+        }
+        v = 10 * v + (c - 48) as u64;
+        if 2147483648 < v {
+            return Digits::NoValue;
+        }
+        i += 1;
+    }
+    if i == 0 {
+        return Digits::NoValue;
+    }
+    Digits::Value(v as u32)
+}
+
+// The negative of v.
+fn negative(v: u32) -> i32
+    requires { ⌜ v ≤ largest ⌝ }
+    ensures { λ r. ⌜ r ≡ negℤ (pos v) ⌝ }
+{
+    if v == 0 {
+        return 0;
+    }
+    bits::signed(0xffff_ffff - (v - 1))
+}
+
+// The frame of digits without a sign.
+fn above(text: &[u8]) -> FrameArgument
+    ensures { λ r. ⌜ r ≡ above (digitsIn (now (text .entry))) ⌝ }
+{
+    let d = digits_in(text);
+    match d {
+        Digits::Value(v) => {
+            if v < 2147483648 {
+                FrameArgument::Number(bits::signed(v))
+            } else {
+                FrameArgument::NoNumber
+            }
+        }
+        Digits::NoValue => FrameArgument::NoNumber,
+    }
+}
+
+// The frame of digits after a minus sign.
+fn below(text: &[u8]) -> FrameArgument
+    ensures { λ r. ⌜ r ≡ below (digitsIn (now (text .entry))) ⌝ }
+{
+    let d = digits_in(text);
+    match d {
+        Digits::Value(v) => FrameArgument::Number(negative(v)),
+        Digits::NoValue => FrameArgument::NoNumber,
+    }
+}
+
+// The frame that the argument FRAME names.
+pub fn frame_named(text: &[u8]) -> FrameArgument
+    ensures { λ r. ⌜ r ≡ frameNamed (now (text .entry)) ⌝ }
+{
+    if text.len() == 0 {
+        return FrameArgument::NoNumber;
+    }
+    if text[0] == b'-' {
+        below(&text[1..])
+    } else {
+        above(text)
+    }
+}
+
+// It is no number.
+fn is_none(frame: FrameArgument) -> bool
+    ensures { λ r. ⌜ r ≡ isNone frame ⌝ }
+{
+    match frame {
+        FrameArgument::Number(_) => false,
+        FrameArgument::NoNumber => true,
+    }
+}
+
+// The number that it is, or 17.
+fn frame_number(frame: FrameArgument) -> i32
+    ensures { λ r. ⌜ r ≡ frameNumber frame ⌝ }
+{
+    match frame {
+        FrameArgument::Number(f) => f,
+        FrameArgument::NoNumber => frame::ECLIPJ2000,
+    }
+}
+
+// A matrix file is given, and it is none, or FRAME is no number.
+fn is_unfit(turned: bool, matrix: &[u8], frame: FrameArgument) -> bool
+    ensures { λ r. ⌜ r ≡ unfit turned (now (matrix .entry)) frame ⌝ }
+{
+    if !turned {
+        return false;
+    }
+    if matrix.len() != admission::MATRIX {
+        return true;
+    }
+    is_none(frame)
+}
+
+// Puts what the program prints, `frame` being the text of FRAME: 18 where a file is over its limit; nothing where a matrix file is given and it or FRAME is
+// none; else that reply.
+pub fn put_output(
+    out: &mut [u8],
+    kernel: &[u8],
+    asked: &[u8],
+    turned: bool,
+    matrix: &[u8],
+    frame: &[u8],
+) -> usize
     requires { ⌜ askRoom (length (now asked)) ≤ length (now out) ⌝ }
-    ensures { λ r. ⌜ Written (now (out .entry)) 0 (askOutput (now (kernel .entry)) (now (asked .entry)) turned (now (matrix .entry))) (now (out .exit)) r ⌝ }
+    ensures { λ r. ⌜ Written (now (out .entry)) 0 (askOutput (now (kernel .entry)) (now (asked .entry)) turned (now (matrix .entry)) (now (frame .entry))) (now (out .exit)) r ⌝ }
     ensures { λ r. ⌜ r ≤ askRoom (length (now (asked .entry))) ⌝ }
 {
     if admission::any_over(kernel, asked, matrix) {
         return lines::put_refusal(out, 0, Refusal::InputTooLong);
     }
-    if is_unfit(turned, matrix) {
+    let f = frame_named(frame);
+    if is_unfit(turned, matrix, f) {
         return 0;
     }
-    put_text(out, kernel, asked, matrix)
+    put_text(out, kernel, asked, matrix, frame_number(f))
 }

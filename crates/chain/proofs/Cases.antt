@@ -11,21 +11,26 @@ use Rattle.bits.specs.F64.{+0, whole}
 use Rattle.bits.specs.Same.{sameZ}
 use Rattle.frame.specs.declared.State.{State}
 use Rattle.frame.specs.State.{stateOf, zeroState, plusState}
+use Rattle.frame.specs.declared.Framed.{Framed}
+use Rattle.frame.specs.declared.Framed.the-variants.{One, Mixed}
+use Rattle.frame.specs.Given.{nothingGiven}
 use Rattle.refusal.specs.declared.Refusal.the-variants.{NoCoverage, Unsupported}
 use Rattle.segment.specs.declared.Segment.{Segment}
 use Rattle.segment.specs.declared.Kind.the-variants as kinds
 use Rattle.segment.specs.declared.Evaluated.{Evaluated}
 use Rattle.segment.specs.declared.Evaluated.the-variants as evaluation
+use Rattle.chain.specs.declared.Yielded.{Yielded}
+use Rattle.chain.specs.declared.Yielded.the-variants as yielded
 use Rattle.chain.specs.Step.{met, look, stepIn, stepFrom}
 use Rattle.chain.specs.Walk.{walkFrom, toZero}
 
--- a segment of a pair from 0 to 10, of a type, with a number for its evaluation
-abbrev of-type : ℕ → ℕ → ℕ → ℕ → Segment
-of-type type t c x =
+-- a segment of a pair from 0 to 10, in a frame, of a type, with a number for its evaluation
+abbrev in-frame : ℕ → ℕ → ℕ → ℕ → ℕ → Segment
+in-frame f type t c x =
     record {
       target = pos t;
       center = pos c;
-      frame = pos 1;
+      frame = pos f;
       «data_type» = pos type;
       start = pos x;
       end = pos 9;
@@ -35,6 +40,9 @@ of-type type t c x =
       marked = false;
       kind = kinds.Unsupported;
     }
+
+abbrev of-type : ℕ → ℕ → ℕ → ℕ → Segment
+of-type = in-frame 1
 
 abbrev of-pair : ℕ → ℕ → ℕ → Segment
 of-pair = of-type 2
@@ -54,18 +62,22 @@ abbrev ladder : ℕ → List Segment
 ladder zero = []
 ladder (suc k) = of-pair (suc k) k 1 ∷ ladder k
 
-abbrev from : ℕ → ℕ → List Segment → Evaluated
+abbrev from : ℕ → ℕ → List Segment → Yielded
 from body et segs =
-    toZero evaluate segs (length segs) (record { start = pos body; body = pos body; et = whole et; total = zeroState })
+    toZero evaluate segs (length segs) (record { start = pos body; body = pos body; et = whole et; total = nothingGiven })
 
-abbrev gives : Float → Evaluated
-gives x = evaluation.State (six x)
+-- six times a number in frame 1, in any frame, or of several
+abbrev framed : Framed → Float → Yielded
+framed f x = yielded.Given (record { state = six x; frame = f })
 
-abbrev eleven : ℕ → Evaluated
-eleven body = evaluation.Refused (NoCoverage (pos body))
+abbrev gives : Float → Yielded
+gives = framed (One (pos 1))
+
+abbrev eleven : ℕ → Yielded
+eleven body = yielded.Refused (NoCoverage (pos body))
 
 -- a walk of 32 steps answers, one of 33 is 11 for the starting body; body 0 takes no step
-pub ladders : from 32 3 (ladder 32) ∷ from 33 3 (ladder 33) ∷ from 0 3 (ladder 2) ∷ [] ≡ gives (whole 32) ∷ eleven 33 ∷ gives +0 ∷ []
+pub ladders : from 32 3 (ladder 32) ∷ from 33 3 (ladder 33) ∷ from 0 3 (ladder 2) ∷ [] ≡ gives (whole 32) ∷ eleven 33 ∷ yielded.Given nothingGiven ∷ []
 unfolding toZero walkFrom stepFrom stepIn look met plusState zeroState add le neg ofInt ofBits
 ladders = refl
 
@@ -81,6 +93,15 @@ stuck-cases = refl
 pub step-cases :
     from 5 3 (of-pair 5 6 1 ∷ of-pair 5 7 2 ∷ of-pair 6 0 4 ∷ of-pair 7 0 8 ∷ []) ∷ from 5 3 (of-pair 5 6 1 ∷ of-pair 5 0 2 ∷ of-pair 6 0 4 ∷ [])
     ∷ from 5 3 (of-pair 5 6 1 ∷ of-type 1 5 7 2 ∷ of-pair 6 0 4 ∷ []) ∷ from 5 3 (of-pair 5 0 2 ∷ of-type 1 5 7 2 ∷ []) ∷ from 5 3 (of-pair 5 0 0 ∷ []) ∷ []
-    ≡ gives (whole 5) ∷ gives (whole 2) ∷ evaluation.Refused (Unsupported (pos 1)) ∷ gives (whole 2) ∷ gives +0 ∷ []
+    ≡ gives (whole 5) ∷ gives (whole 2) ∷ yielded.Refused (Unsupported (pos 1)) ∷ gives (whole 2) ∷ gives +0 ∷ []
 unfolding toZero walkFrom stepFrom stepIn look met plusState zeroState add le neg ofInt ofBits
 step-cases = refl
+
+-- the frame of a walk's sum: two segments of 17, of 1 and 17, of 13 alone; a segment of another frame that is passed over counts for nothing,
+-- where the first is taken and where the one that goes to body 0 is
+pub frame-cases :
+    from 5 3 (in-frame 17 2 5 6 1 ∷ in-frame 17 2 6 0 2 ∷ []) ∷ from 5 3 (in-frame 1 2 5 6 1 ∷ in-frame 17 2 6 0 2 ∷ []) ∷ from 5 3 (in-frame 13 2 5 0 1 ∷ [])
+    ∷ from 5 3 (in-frame 17 2 5 6 1 ∷ in-frame 1 2 5 7 2 ∷ in-frame 17 2 6 0 4 ∷ []) ∷ from 5 3 (in-frame 1 2 5 6 1 ∷ in-frame 17 2 5 0 2 ∷ in-frame 1 2 6 0 4 ∷ []) ∷ []
+    ≡ framed (One (pos 17)) (whole 3) ∷ framed Mixed (whole 3) ∷ framed (One (pos 13)) (whole 1) ∷ framed (One (pos 17)) (whole 5) ∷ framed (One (pos 17)) (whole 2) ∷ []
+unfolding toZero walkFrom stepFrom stepIn look met plusState zeroState add le neg ofInt ofBits
+frame-cases = refl

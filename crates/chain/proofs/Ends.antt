@@ -11,7 +11,7 @@ use native.Mathlib.Nat.{eq-or-lt-of-le}
 use native.Mathlib.Omega.{arith}
 use lib.IntN.{ℤ}
 use Rattle.bits.proofs.Tests.{by-test}
-use Rattle.frame.specs.declared.State.{State}
+use Rattle.frame.specs.declared.Given.{Given}
 use Rattle.segment.specs.declared.Segment.{Segment}
 use Rattle.segment.specs.declared.Evaluated.{Evaluated}
 use Rattle.segment.specs.declared.Evaluated.the-variants as evaluation
@@ -20,7 +20,7 @@ use Rattle.chain.specs.declared.Leg.{Leg}
 use Rattle.chain.specs.declared.Step.{Step}
 use Rattle.chain.specs.declared.Step.the-variants.{Blocked, Kept, Zero, Refused}
 use Rattle.chain.specs.declared.Next.the-variants.{Ended, Onward}
-use Rattle.chain.specs.Step.{Evaluation, leaves, reachesZero, keptOr, met, seen, look, isEnd, stepIn, stepFrom}
+use Rattle.chain.specs.Step.{Evaluation, leaves, reachesZero, keptOr, met, givenBy, seen, look, isEnd, stepIn, stepFrom}
 use Rattle.chain.specs.Walk.{noCoverage, onward, returns, advance, follow, walkFrom}
 use Rattle.chain.specs.When.{byTest, stuckAfter, Stuck}
 
@@ -54,11 +54,11 @@ some (Kept hop) = true
 some (Zero x) = true
 some (Refused r) = true
 
-met-some : (kept : Step) (s : Segment) (x : State) → some (met kept s x) ≡ true
+met-some : (kept : Step) (s : Segment) (x : Given) → some (met kept s x) ≡ true
 unfolding met
 met-some kept s x = go (reachesZero s) kept
   where
-    go : (b : Bool) (k : Step) → some (cond b (Zero x) (keptOr k (Kept (record { center = s .center; state = x })))) ≡ true
+    go : (b : Bool) (k : Step) → some (cond b (Zero x) (keptOr k (Kept (record { center = s .center; given = x })))) ≡ true
     go true k = refl
     go false Blocked = refl
     go false (Kept hop) = refl
@@ -71,7 +71,7 @@ module _ (ev : Evaluation) (segs : List Segment) (leg : Leg) where
   look-some b kept i l h = ap (λ (t : Bool). some (cond t (seen kept (seg segs i) (ev (seg segs i) i (leg .et))) kept)) l ∙ go b (ev (seg segs i) i (leg .et)) h
     where
       go : (t : Bool) (e : Evaluated) → (t || some kept) ≡ true → some (cond t (seen kept (seg segs i) e) kept) ≡ true
-      go true (evaluation.State x) p = met-some kept (seg segs i) x
+      go true (evaluation.State x) p = met-some kept (seg segs i) (givenBy (seg segs i) x)
       go true (evaluation.Refused r) p = refl
       go false e p = p
 

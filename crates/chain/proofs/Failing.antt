@@ -15,26 +15,32 @@ use native.Mathlib.Omega.{arith}
 use lib.IntN.{ℤ}
 use Rattle.bits.proofs.Tests.{by-test}
 use Rattle.frame.specs.declared.State.{State}
+use Rattle.frame.specs.declared.Given.{Given}
 use Rattle.refusal.specs.declared.Refusal.{Refusal}
 use Rattle.refusal.specs.declared.Refusal.the-variants.{NoCoverage}
 use Rattle.segment.specs.declared.Segment.{Segment}
 use Rattle.segment.specs.declared.Evaluated.{Evaluated}
 use Rattle.segment.specs.declared.Evaluated.the-variants as evaluation
 use Rattle.table.specs.Segments.{seg}
+use Rattle.chain.specs.declared.Yielded.{Yielded}
+use Rattle.chain.specs.declared.Yielded.the-variants as yielded
 use Rattle.chain.specs.declared.Leg.{Leg}
 use Rattle.chain.specs.declared.Hop.{Hop}
 use Rattle.chain.specs.declared.Step.{Step}
 use Rattle.chain.specs.declared.Step.the-variants.{Blocked, Kept, Zero, Refused}
 use Rattle.chain.specs.declared.Next.the-variants.{Ended, Onward}
-use Rattle.chain.specs.Step.{Evaluation, leaves, reachesZero, keptOr, look, isEnd, stepIn, stepFrom}
+use Rattle.chain.specs.Step.{Evaluation, leaves, reachesZero, givenBy, keptOr, look, isEnd, stepIn, stepFrom}
 use Rattle.chain.specs.Walk.{chainLimit, noCoverage, onward, returns, advance, follow, walkFrom, isZero, toZero}
 use Rattle.chain.specs.When.{byTest, stuckAfter, Stuck, Past, RefusedAt, Failed}
 use Rattle.chain.proofs.Ends.{clash}
 use Rattle.chain.proofs.Walks.{zero-home, zero-walk}
 use Rattle.chain.proofs.Steps.{met-home, met-else, look-past, look-seen}
 
-refusal-eq : (r s : Refusal) → _≡_ {A = Evaluated} (evaluation.Refused r) (evaluation.Refused s) → r ≡ s
+refusal-eq : (r s : Refusal) → _≡_ {A = Yielded} (yielded.Refused r) (yielded.Refused s) → r ≡ s
 refusal-eq r s h = cc
+
+not-given : {X : Type 0} (x : Given) (r : Refusal) → _≡_ {A = Yielded} (yielded.Given x) (yielded.Refused r) → X
+not-given x r h = clash (cc)
 
 not-state : {X : Type 0} (x : State) (r : Refusal) → _≡_ {A = Evaluated} (evaluation.State x) (evaluation.Refused r) → X
 not-state x r h = clash (cc)
@@ -42,7 +48,7 @@ not-state x r h = clash (cc)
 step-refusal : (r s : Refusal) → _≡_ {A = Step} (Refused r) (Refused s) → r ≡ s
 step-refusal r s h = cc
 
-not-home : {X : Type 0} (x : State) (r : Refusal) → _≡_ {A = Step} (Zero x) (Refused r) → X
+not-home : {X : Type 0} (x : Given) (r : Refusal) → _≡_ {A = Step} (Zero x) (Refused r) → X
 not-home x r h = clash (cc)
 
 kept-on : (kept : Step) (hop : Hop) → isEnd kept ≡ false → isEnd (keptOr kept (Kept hop)) ≡ false
@@ -56,7 +62,7 @@ module _ (ev : Evaluation) (segs : List Segment) (leg : Leg) where
   -- what the next segment does to the scan
   data Look (kept : Step) (i : ℕ) : Type 0 where
     on : (next : Step) → look ev leg kept (seg segs i) i ≡ next → isEnd next ≡ false → Past ev segs leg i → Look kept i
-    home : (x : State) → look ev leg kept (seg segs i) i ≡ Zero x → leaves (seg segs i) leg ≡ true → reachesZero (seg segs i) ≡ true → Look kept i
+    home : (x : Given) → look ev leg kept (seg segs i) i ≡ Zero x → leaves (seg segs i) leg ≡ true → reachesZero (seg segs i) ≡ true → Look kept i
     refused : (r : Refusal) → look ev leg kept (seg segs i) i ≡ Refused r → leaves (seg segs i) leg ≡ true → ev (seg segs i) i (leg .et) ≡ evaluation.Refused r → Look kept i
 
   looks : (kept : Step) (i : ℕ) → isEnd kept ≡ false → Look kept i
@@ -68,10 +74,10 @@ module _ (ev : Evaluation) (segs : List Segment) (leg : Leg) where
       go (evaluation.Refused r) h l = refused r (sym (look-seen ev leg kept (seg segs i) i (evaluation.Refused r) l h)) l h
       go (evaluation.State x) h l =
           let was = look-seen ev leg kept (seg segs i) i (evaluation.State x) l h in
-          by-test (reachesZero (seg segs i)) (λ g. home x (sym was ∙ sym (met-home kept (seg segs i) x g)) l g)
+          by-test (reachesZero (seg segs i)) (λ g. home (givenBy (seg segs i) x) (sym was ∙ sym (met-home kept (seg segs i) (givenBy (seg segs i) x) g)) l g)
           (λ g.
-          let hop : Hop = record { center = seg segs i .center; state = x } in
-          on (keptOr kept (Kept hop)) (sym was ∙ sym (met-else kept (seg segs i) x kept hop g refl refl refl)) (kept-on kept hop e) (λ t. (g, (x, h))))
+          let hop : Hop = record { center = seg segs i .center; given = givenBy (seg segs i) x } in
+          on (keptOr kept (Kept hop)) (sym was ∙ sym (met-else kept (seg segs i) (givenBy (seg segs i) x) kept hop g refl refl refl)) (kept-on kept hop e) (λ t. (g, (x, h))))
 
   -- a turn of the scan, by what the segment does
   turn : (kept next : Step) (i k : ℕ) (b : Bool) → look ev leg kept (seg segs i) i ≡ next → isEnd next ≡ b
@@ -125,7 +131,7 @@ module _ (ev : Evaluation) (segs : List Segment) (n : ℕ) where
   unfolding stepFrom
   at-refused leg i r w = let b = w .below in step-where ev segs leg n i r w Blocked 0 n (omega arith) (omega arith) refl
 
-  pub failed-where : (leg : Leg) (left i : ℕ) (r : Refusal) → Failed ev segs n leg left i r → walkFrom ev segs n leg left ≡ evaluation.Refused r
+  pub failed-where : (leg : Leg) (left i : ℕ) (r : Refusal) → Failed ev segs n leg left i r → walkFrom ev segs n leg left ≡ yielded.Refused r
   unfolding walkFrom Failed
   failed-where leg zero i r w = absurd w
   failed-where leg (suc left) i r w =
@@ -139,30 +145,30 @@ module _ (ev : Evaluation) (segs : List Segment) (n : ℕ) where
   abbrev pub Ends : Leg → ℕ → Refusal → Type 0
   Ends leg left r = ((i : ℕ) × Failed ev segs n leg left i r) ⊎ ((b : ℤ) × Stuck ev segs n leg left b × (NoCoverage b ≡ r))
 
-  pub walk-why : (leg : Leg) (left : ℕ) (r : Refusal) → walkFrom ev segs n leg left ≡ evaluation.Refused r → Ends leg left r
+  pub walk-why : (leg : Leg) (left : ℕ) (r : Refusal) → walkFrom ev segs n leg left ≡ yielded.Refused r → Ends leg left r
   unfolding walkFrom Failed Stuck
   walk-why leg zero r h = inr (leg .start, refl, refusal-eq _ r h)
   walk-why leg (suc left) r h = go (λ on. walk-why on left r) (stepFrom ev segs n leg) refl h
     where
-      go : ((on : Leg) → walkFrom ev segs n on left ≡ evaluation.Refused r → Ends on left r)
-          → (step : Step) → stepFrom ev segs n leg ≡ step → follow (λ on. walkFrom ev segs n on left) (advance leg step) ≡ evaluation.Refused r
+      go : ((on : Leg) → walkFrom ev segs n on left ≡ yielded.Refused r → Ends on left r)
+          → (step : Step) → stepFrom ev segs n leg ≡ step → follow (λ on. walkFrom ev segs n on left) (advance leg step) ≡ yielded.Refused r
           → ((i : ℕ) × Failed ev segs n leg (suc left) i r) ⊎ ((b : ℤ) × stuckAfter leg b (λ on. Stuck ev segs n on left b) step × (NoCoverage b ≡ r))
       go ih Blocked e x = inr (leg .body, refl, refusal-eq _ r x)
       go ih (Kept hop) e x = back (returns leg hop) refl x
         where
           back : (t : Bool) → returns leg hop ≡ t
-              → follow (λ on. walkFrom ev segs n on left) (cond t (Ended (noCoverage (leg .start))) (Onward (onward leg hop))) ≡ evaluation.Refused r
+              → follow (λ on. walkFrom ev segs n on left) (cond t (Ended (noCoverage (leg .start))) (Onward (onward leg hop))) ≡ yielded.Refused r
               → ((i : ℕ) × Failed ev segs n leg (suc left) i r) ⊎ ((b : ℤ) × byTest t (leg .start ≡ b) (Stuck ev segs n (onward leg hop) left b) × (NoCoverage b ≡ r))
           back true f y = inr (leg .start, refl, refusal-eq _ r y)
           back false f y =
               ⊎-elim (λ w. inl (w .0, inr (hop, e, f, w .1))) (λ w. inr w) (ih (onward leg hop) y)
-      go ih (Zero s) e x = not-state _ r x
+      go ih (Zero s) e x = not-given _ r x
       go ih (Refused y) e x = let w = refused-at leg r (e ∙ ap Refused (refusal-eq y r x)) in inl (w .0, inl (w .1))
 
   -- body 0 takes no step
-  pub zero-why : (leg : Leg) (r : Refusal) → toZero ev segs n leg ≡ evaluation.Refused r → (isZero leg ≡ false) × Ends leg chainLimit r
+  pub zero-why : (leg : Leg) (r : Refusal) → toZero ev segs n leg ≡ yielded.Refused r → (isZero leg ≡ false) × Ends leg chainLimit r
   zero-why leg r h =
-      by-test (isZero leg) (λ e. not-state _ r (sym (zero-home ev segs n leg e) ∙ h))
+      by-test (isZero leg) (λ e. not-given _ r (sym (zero-home ev segs n leg e) ∙ h))
       (λ e. (e, walk-why leg chainLimit r (sym (zero-walk ev segs n leg e) ∙ h)))
 
   pub failed-given : (leg : Leg) (left i : ℕ) (r : Refusal) → Failed ev segs n leg left i r → (i < n) × (ev (seg segs i) i (leg .et) ≡ evaluation.Refused r)

@@ -6,3 +6,5 @@ pub mod Ends
 pub mod Failing
 pub mod Own
 pub mod Cases
+pub mod Before
+pub mod Framed

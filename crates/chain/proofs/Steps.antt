@@ -6,31 +6,33 @@ use Prim.Native.Nat.{ℕ, suc, _+_, _-_, _≤_, _<_}
 use native.Mathlib.Numerals.{add-one}
 use native.Mathlib.Omega.{arith}
 use Rattle.frame.specs.declared.State.{State}
+use Rattle.frame.specs.declared.Given.{Given}
 use Rattle.segment.specs.declared.Segment.{Segment}
 use Rattle.segment.specs.declared.Evaluated.{Evaluated}
+use Rattle.segment.specs.declared.Evaluated.the-variants as evaluation
 use Rattle.table.specs.Segments.{seg}
 use Rattle.chain.specs.declared.Leg.{Leg}
 use Rattle.chain.specs.declared.Hop.{Hop}
 use Rattle.chain.specs.declared.Step.{Step}
 use Rattle.chain.specs.declared.Step.the-variants.{Blocked, Kept, Zero}
-use Rattle.chain.specs.Step.{Evaluation, leaves, reachesZero, keptOr, met, seen, look, isEnd, placeAfter, stepIn, stepFrom}
+use Rattle.chain.specs.Step.{Evaluation, leaves, reachesZero, givenBy, keptOr, met, seen, look, isEnd, placeAfter, stepIn, stepFrom}
 
 -- two hops are equal by their fields
-pub hop-eq : (a b : Hop) → a .center ≡ b .center → a .state ≡ b .state → a ≡ b
-hop-eq a b p q = λ i. record { center = p i; state = q i }
+pub hop-eq : (a b : Hop) → a .center ≡ b .center → a .given ≡ b .given → a ≡ b
+hop-eq a b p q = λ i. record { center = p i; given = q i }
 
-module _ (kept : Step) (s : Segment) (x : State) where
+module _ (kept : Step) (s : Segment) (x : Given) where
   -- the segment goes to body 0
   pub met-home : reachesZero s ≡ true → Zero x ≡ met kept s x
   unfolding met
-  met-home e = sym (ap (λ (b : Bool). cond b (Zero x) (keptOr kept (Kept (record { center = s .center; state = x })))) e)
+  met-home e = sym (ap (λ (b : Bool). cond b (Zero x) (keptOr kept (Kept (record { center = s .center; given = x })))) e)
 
   -- it goes elsewhere
-  pub met-else : (old : Step) (hop : Hop) → reachesZero s ≡ false → kept ≡ old → hop .center ≡ s .center → hop .state ≡ x → keptOr old (Kept hop) ≡ met kept s x
+  pub met-else : (old : Step) (hop : Hop) → reachesZero s ≡ false → kept ≡ old → hop .center ≡ s .center → hop .given ≡ x → keptOr old (Kept hop) ≡ met kept s x
   unfolding met
   met-else old hop e o p q =
-      ap₂ (λ (a : Step) (h : Hop). keptOr a (Kept h)) (sym o) (hop-eq hop (record { center = s .center; state = x }) p q)
-      ∙ sym (ap (λ (b : Bool). cond b (Zero x) (keptOr kept (Kept (record { center = s .center; state = x })))) e)
+      ap₂ (λ (a : Step) (h : Hop). keptOr a (Kept h)) (sym o) (hop-eq hop (record { center = s .center; given = x }) p q)
+      ∙ sym (ap (λ (b : Bool). cond b (Zero x) (keptOr kept (Kept (record { center = s .center; given = x })))) e)
 
 module _ (ev : Evaluation) (leg : Leg) (kept : Step) (s : Segment) (i : ℕ) where
   -- the segment is passed over
@@ -43,6 +45,10 @@ module _ (ev : Evaluation) (leg : Leg) (kept : Step) (s : Segment) (i : ℕ) whe
   unfolding look
   look-seen e l h =
       ap (seen kept s) (sym h) ∙ sym (ap (λ (b : Bool). cond b (seen kept s (ev s i (leg .et))) kept) l)
+
+  -- it gives a state
+  pub look-given : (x : State) (g : Given) (next : Step) → leaves s leg ≡ true → ev s i (leg .et) ≡ evaluation.State x → g ≡ givenBy s x → next ≡ met kept s g → next ≡ look ev leg kept s i
+  look-given x g next l h e t = t ∙ ap (met kept s) e ∙ look-seen (evaluation.State x) l h
 
 -- ---- the place that the scan looks at next
 module _ (next : Step) (i n : ℕ) where

@@ -4,7 +4,7 @@ use mathlib.Core.Bool.{Bool, true, false, cond}
 use mathlib.Core.List.{List}
 use Prim.Native.Nat.{ℕ, suc, zero}
 use Rattle.segment.specs.declared.Segment.{Segment}
-use Rattle.segment.specs.declared.Evaluated.the-variants as evaluation
+use Rattle.chain.specs.declared.Yielded.the-variants as yielded
 use Rattle.chain.specs.declared.Leg.{Leg}
 use Rattle.chain.specs.declared.Hop.{Hop}
 use Rattle.chain.specs.declared.Step.{Step}
@@ -15,7 +15,7 @@ use Rattle.chain.specs.Step.{Evaluation, stepFrom}
 use Rattle.chain.specs.Walk.{chainLimit, noCoverage, onward, returns, advance, follow, walkFrom, isZero, toZero}
 use Rattle.chain.specs.Steps.{endOf, begin}
 use Rattle.bits.proofs.Tests.{by-test}
-use Rattle.segment.specs.declared.Evaluated.{Evaluated}
+use Rattle.chain.specs.declared.Yielded.{Yielded}
 
 -- two legs are equal by their fields
 pub leg-eq : (a b : Leg) → a .start ≡ b .start → a .body ≡ b .body → a .et ≡ b .et → a .total ≡ b .total → a ≡ b
@@ -40,17 +40,17 @@ module _ (ev : Evaluation) (segs : List Segment) (n : ℕ) (leg : Leg) where
   walk-step left less next e h = ap (walkFrom ev segs n leg) e ∙ ap (follow (λ on. walkFrom ev segs n on less)) h
 
   -- body 0 takes no step, and any other walks
-  pub zero-home : isZero leg ≡ true → toZero ev segs n leg ≡ evaluation.State (leg .total)
+  pub zero-home : isZero leg ≡ true → toZero ev segs n leg ≡ yielded.Given (leg .total)
   unfolding toZero
-  zero-home e = ap (λ (b : Bool). cond b (evaluation.State (leg .total)) (walkFrom ev segs n leg chainLimit)) e
+  zero-home e = ap (λ (b : Bool). cond b (yielded.Given (leg .total)) (walkFrom ev segs n leg chainLimit)) e
 
   pub zero-walk : isZero leg ≡ false → toZero ev segs n leg ≡ walkFrom ev segs n leg chainLimit
   unfolding toZero
-  zero-walk e = ap (λ (b : Bool). cond b (evaluation.State (leg .total)) (walkFrom ev segs n leg chainLimit)) e
+  zero-walk e = ap (λ (b : Bool). cond b (yielded.Given (leg .total)) (walkFrom ev segs n leg chainLimit)) e
 
 -- ---- a walk from where it stands
 module _ (ev : Evaluation) (segs : List Segment) (n : ℕ) where
-  abbrev pub ahead : ℕ → Next → Evaluated
+  abbrev pub ahead : ℕ → Next → Yielded
   ahead left at = follow (λ (on : Leg). walkFrom ev segs n on left) at
 
   -- no step is left
@@ -64,9 +64,9 @@ module _ (ev : Evaluation) (segs : List Segment) (n : ℕ) where
   pub begin-told : (leg : Leg) → ahead chainLimit (begin leg) ≡ toZero ev segs n leg
   unfolding begin
   begin-told leg = by-test (isZero leg)
-      (λ e. ap (λ (b : Bool). ahead chainLimit (cond b (Ended (evaluation.State (leg .total))) (Onward leg))) e ∙ sym (zero-home ev segs n leg e))
-      (λ e. ap (λ (b : Bool). ahead chainLimit (cond b (Ended (evaluation.State (leg .total))) (Onward leg))) e ∙ sym (zero-walk ev segs n leg e))
+      (λ e. ap (λ (b : Bool). ahead chainLimit (cond b (Ended (yielded.Given (leg .total))) (Onward leg))) e ∙ sym (zero-home ev segs n leg e))
+      (λ e. ap (λ (b : Bool). ahead chainLimit (cond b (Ended (yielded.Given (leg .total))) (Onward leg))) e ∙ sym (zero-walk ev segs n leg e))
 
-pub begin-at : (leg x : Leg) (b : Bool) → leg ≡ x → isZero leg ≡ b → cond b (Ended (evaluation.State (leg .total))) (Onward leg) ≡ begin x
+pub begin-at : (leg x : Leg) (b : Bool) → leg ≡ x → isZero leg ≡ b → cond b (Ended (yielded.Given (leg .total))) (Onward leg) ≡ begin x
 unfolding begin
-begin-at leg x b e h = ap (λ (y : Bool). cond y (Ended (evaluation.State (leg .total))) (Onward leg)) (sym h) ∙ ap begin e
+begin-at leg x b e h = ap (λ (y : Bool). cond y (Ended (yielded.Given (leg .total))) (Onward leg)) (sym h) ∙ ap begin e

@@ -4,3 +4,4 @@ pub mod Walk
 pub mod When
 pub mod Touched
 pub mod Steps
+pub mod Before

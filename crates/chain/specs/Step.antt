@@ -6,10 +6,14 @@ use lib.IntN.{pos}
 use lib.Ieee.{Float}
 use Rattle.bits.specs.Same.{sameZ}
 use Rattle.frame.specs.declared.State.{State}
+use Rattle.frame.specs.declared.Given.{Given}
+use Rattle.frame.specs.Given.{givenOf}
 use Rattle.segment.specs.declared.Segment.{Segment}
 use Rattle.segment.specs.declared.Evaluated.{Evaluated}
 use Rattle.segment.specs.declared.Evaluated.the-variants as evaluation
 use Rattle.table.specs.Segments.{isCovering, seg}
+use Rattle.chain.specs.declared.Yielded.{Yielded}
+use Rattle.chain.specs.declared.Yielded.the-variants as yielded
 use Rattle.chain.specs.declared.Leg.{Leg}
 use Rattle.chain.specs.declared.Step.{Step}
 use Rattle.chain.specs.declared.Step.the-variants.{Blocked, Kept, Zero, Refused}
@@ -17,6 +21,14 @@ use Rattle.chain.specs.declared.Step.the-variants.{Blocked, Kept, Zero, 
 -- An evaluation of segments by their numbers at an epoch: `evaluated Spk k` for a kernel k.
 abbrev pub Evaluation : Type 0
 Evaluation = Segment → ℕ → Float → Evaluated
+
+-- What a segment gives: its state is in its own frame.
+abbrev pub givenBy : Segment → State → Given
+givenBy s x = givenOf x (s .frame)
+
+abbrev pub yieldOf : Segment → Evaluated → Yielded
+yieldOf s (evaluation.State x) = yielded.Given (givenBy s x)
+yieldOf s (evaluation.Refused r) = yielded.Refused r
 
 -- The segment's target is the current body, and it covers the epoch.
 abbrev pub leaves : Segment → Leg → Bool
@@ -33,13 +45,13 @@ keptOr (Kept hop) next = Kept hop
 keptOr (Zero x) next = Zero x
 keptOr (Refused r) next = Refused r
 
--- The scan with one more segment, whose state is x: the first whose center is 0 is taken, else the first.
-unfoldable pub met : Step → Segment → State → Step
-met kept s x = cond (reachesZero s) (Zero x) (keptOr kept (Kept (record { center = s .center; state = x })))
+-- The scan with one more segment, which gives x: the first whose center is 0 is taken, else the first.
+unfoldable pub met : Step → Segment → Given → Step
+met kept s x = cond (reachesZero s) (Zero x) (keptOr kept (Kept (record { center = s .center; given = x })))
 
 -- The same by what evaluating it resulted in: any refusal ends all.
 abbrev pub seen : Step → Segment → Evaluated → Step
-seen kept s (evaluation.State x) = met kept s x
+seen kept s (evaluation.State x) = met kept s (givenBy s x)
 seen kept s (evaluation.Refused r) = Refused r
 
 -- The scan with segment i: each covering segment of the current body is evaluated, the others are passed over.

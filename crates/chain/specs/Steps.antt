@@ -4,9 +4,9 @@ use mathlib.Core.Bool.{Bool, true, cond}
 use lib.Dec.{eqb}
 use lib.IntN.{pos}
 use Rattle.bits.specs.F64.{+0}
-use Rattle.frame.specs.State.{zeroState}
-use Rattle.segment.specs.declared.Evaluated.{Evaluated}
-use Rattle.segment.specs.declared.Evaluated.the-variants as evaluation
+use Rattle.frame.specs.Given.{nothingGiven}
+use Rattle.chain.specs.declared.Yielded.{Yielded}
+use Rattle.chain.specs.declared.Yielded.the-variants as yielded
 use Rattle.chain.specs.declared.Leg.{Leg}
 use Rattle.chain.specs.declared.Next.{Next}
 use Rattle.chain.specs.declared.Next.the-variants.{Ended, Onward}
@@ -17,14 +17,14 @@ abbrev pub isOver : Next → ℕ → Bool
 isOver (Ended e) left = true
 isOver (Onward leg) left = eqb left 0
 
-abbrev pub endOf : Next → Evaluated
+abbrev pub endOf : Next → Yielded
 endOf (Ended e) = e
 endOf (Onward leg) = noCoverage (leg .start)
 
 abbrev pub legOf : Next → Leg
-legOf (Ended e) = record { start = pos 0; body = pos 0; et = +0; total = zeroState }
+legOf (Ended e) = record { start = pos 0; body = pos 0; et = +0; total = nothingGiven }
 legOf (Onward leg) = leg
 
 -- Where a walk starts: body 0 takes no step.
 unfoldable pub begin : Leg → Next
-begin leg = cond (isZero leg) (Ended (evaluation.State (leg .total))) (Onward leg)
+begin leg = cond (isZero leg) (Ended (yielded.Given (leg .total))) (Onward leg)

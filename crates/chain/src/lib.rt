@@ -9,7 +9,7 @@ ghost use Rattle.chain.specs.Step.{leaves, reachesZero, met, look, place
 ghost use Rattle.chain.specs.Walk.{noCoverage, onward, returns, advance, isZero};
 ghost use Rattle.chain.specs.Steps.{isOver, endOf, legOf};
 use daf::Family;
-use frame::State;
+use frame::Given;
 use refusal::Refusal;
 use segment::Evaluated;
 use segment::Segment;
@@ -19,7 +19,7 @@ pub struct Leg {
     pub start: i32,
     pub body: i32,
     pub et: f64,
-    pub total: State,
+    pub total: Given,
 }
 
 impl Leg {
@@ -27,23 +27,29 @@ impl Leg {
     pub const STEPS: u32 = 32;
 }
 
-// A segment that leaves the current body: the body that it goes to, and its state.
+// A segment that leaves the current body: the body that it goes to, and the state that it gives.
 pub struct Hop {
     pub center: i32,
-    pub state: State,
+    pub given: Given,
 }
 
 // What a step's scan has resulted in: no segment yet, the first that it met, one that goes to body 0, or a refusal. The last two end it.
 pub enum Step {
     Blocked,
     Kept(Hop),
-    Zero(State),
+    Zero(Given),
+    Refused(Refusal),
+}
+
+// What segments gave together, or the refusal that came of them.
+pub enum Yielded {
+    Given(Given),
     Refused(Refusal),
 }
 
 // What the walk results in after a step: its end, or the next leg.
 pub enum Next {
-    Ended(Evaluated),
+    Ended(Yielded),
     Onward(Leg),
 }
 
@@ -63,16 +69,16 @@ fn reaches_zero(s: Segment) -> bool
 
 impl Step {
     // The scan with one more segment evaluated: one that goes to body 0 ends it, another is kept where it is the first.
-    fn met(self, s: Segment, state: State) -> Step
-        ensures { λ r. ⌜ r ≡ met self s state ⌝ }
+    fn met(self, s: Segment, given: Given) -> Step
+        ensures { λ r. ⌜ r ≡ met self s given ⌝ }
     {
         if reaches_zero(s) {
-            return Step::Zero(state);
+            return Step::Zero(given);
         }
         match self {
             Step::Blocked => Step::Kept(Hop {
                 center: s.center,
-                state: state,
+                given: given,
             }),
             Step::Kept(hop) => Step::Kept(hop),
             Step::Zero(x) => Step::Zero(x),
@@ -102,29 +108,29 @@ pub fn look(kernel: &[u8], leg: Leg, kept: Step, s: Segment, i: usize) -> Step
     let e = segment::evaluate(kernel, Family::Spk, s, i as u32, leg.et);
     match e {
         Evaluated::Refused(r) => Step::Refused(r),
-        Evaluated::State(x) => kept.met(s, x),
+        Evaluated::State(x) => kept.met(s, Given::of(x, s.frame)),
     }
 }
 
 // The walk ends with refusal 11 for the current body, which no segment leaves.
-fn blocked(leg: Leg) -> Evaluated
+fn blocked(leg: Leg) -> Yielded
     ensures { λ r. ⌜ r ≡ noCoverage (leg .body) ⌝ }
 {
-    Evaluated::Refused(Refusal::NoCoverage(leg.body))
+    Yielded::Refused(Refusal::NoCoverage(leg.body))
 }
 
 // The walk ends with refusal 11 for the starting body.
-fn no_way(leg: Leg) -> Evaluated
+fn no_way(leg: Leg) -> Yielded
     ensures { λ r. ⌜ r ≡ noCoverage (leg .start) ⌝ }
 {
-    Evaluated::Refused(Refusal::NoCoverage(leg.start))
+    Yielded::Refused(Refusal::NoCoverage(leg.start))
 }
 
 // The leg after a hop.
 fn onward(leg: Leg, hop: Hop) -> Leg
     ensures { λ r. ⌜ r ≡ onward leg hop ⌝ }
 {
-    let total = leg.total.plus(hop.state);
+    let total = leg.total.plus(hop.given);
     Leg {
         start: leg.start,
         body: hop.center,
@@ -146,8 +152,8 @@ pub fn advance(leg: Leg, step: Step) -> Next
 {
     match step {
         Step::Blocked => Next::Ended(blocked(leg)),
-        Step::Refused(r) => Next::Ended(Evaluated::Refused(r)),
-        Step::Zero(x) => Next::Ended(Evaluated::State(leg.total.plus(x))),
+        Step::Refused(r) => Next::Ended(Yielded::Refused(r)),
+        Step::Zero(x) => Next::Ended(Yielded::Given(leg.total.plus(x))),
         Step::Kept(hop) => {
             if returns(leg, hop) {
                 return Next::Ended(no_way(leg));
@@ -177,7 +183,7 @@ pub fn is_over(at: Next, left: u32) -> bool
 }
 
 // What a walk that is over results in.
-pub fn end_of(at: Next) -> Evaluated
+pub fn end_of(at: Next) -> Yielded
     ensures { λ r. ⌜ r ≡ endOf at ⌝ }
 {
     match at {
@@ -195,7 +201,7 @@ pub fn leg_of(at: Next) -> Leg
             start: 0,
             body: 0,
             et: 0.0,
-            total: State::zero(),
+            total: Given::nothing(),
         },
         Next::Onward(leg) => leg,
     }

@@ -26,7 +26,7 @@ use Rattle.demands.specs.Indexed.{IndexedAs, Lending, Untouched, indexed
 use Rattle.demands.proofs.Lent.{lent-demand-3, lent-interleaving, lent-questions-fit, lent-orientations-fit, lent-own-evaluated, lent-own-bytes}
 
 -- the index that an opening left is right where it has room
-right : (f : Family) (k : List ℕ) (before : List Segment) (spare : List ℕ) (segs : List Segment) (ix : List ℕ) (n : ℕ) → IndexedAs f k before spare segs ix n
+pub right : (f : Family) (k : List ℕ) (before : List Segment) (spare : List ℕ) (segs : List Segment) (ix : List ℕ) (n : ℕ) → IndexedAs f k before spare segs ix n
     → hasRoom n ix ≡ true → RightIndex segs n ix
 right f k before spare segs ix n left room =
     let limit = limitOf (length before) in

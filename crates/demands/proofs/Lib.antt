@@ -4,3 +4,4 @@ pub mod Lent
 pub mod Statements
 pub mod Indexed
 pub mod Outputs
+pub mod Frames

@@ -11,13 +11,13 @@ use mathlib.Core.List.{List, [], _∷_, _++_, map}
 use native.Mathlib.Omega.{arith}
 use borrow.Author.Tests.{lt-ltb, le-ltb, eq-eqb, ne-eqb}
 use lib.Dec.{eqb, ltb}
+use lib.IntN.{ℤ}
 use lib.ListN.{length, getD, length-replicate}
 use Rattle.bits.specs.Bytes.{le32, le64, signed32, doubleOf}
 use Rattle.bits.proofs.Tests.{by-test, and-no, and-both, or-left, or-right, or-none}
 use Rattle.refusal.specs.declared.Refusal.the-variants.{InputTooLong}
 use Rattle.refusal.specs.Order.{Case, firstOf, First, None, given}
 use Rattle.refusal.proofs.Exactly.{given-where, answer-where}
-use Rattle.frame.specs.declared.NaifFrame.the-variants.{EclipJ2000}
 use Rattle.daf.specs.declared.Family.the-variants.{Spk}
 use Rattle.segment.specs.Evaluating.{evaluated}
 use Rattle.segment.specs.declared.Segment.{Segment}
@@ -51,6 +51,9 @@ use Rattle.streams.specs.Input.{inputLimit}
 use Rattle.admission.specs.Order.{tooLong, matrixSize, recordCases}
 use Rattle.ask_text.specs.Records as ask-records
 use Rattle.ask_text.specs.Lines.{sameWord, forwardWord, reversedWord, chainedWord, wordLine, namedLine, wayLine, answerText}
+use Rattle.ask_text.specs.declared.FrameArgument.{FrameArgument}
+use Rattle.ask_text.specs.declared.FrameArgument.the-variants.{Number, NoNumber}
+use Rattle.ask_text.specs.FrameText.{frameNamed, isNone, frameNumber}
 use Rattle.ask_text.specs.Text as ask
 use Rattle.orient_text.specs.Records as orient-records
 use Rattle.orient_text.specs.Lines.{turnedText, outcomeText, orientedText}
@@ -88,13 +91,13 @@ answer-line : (i : ℕ) (a : Answer) → OneLine (answerText i a)
 unfolding answerText wayLine wordLine namedLine
 answer-line i a = by (a .way)
   where
-    worded : (w : List ℕ) → Unbroken w → OneLine (wordLine i w (a .state))
-    worded w p = in-front (decimal-plain i) (in-front p (tail-line (a .state)))
+    worded : (w : List ℕ) → Unbroken w → OneLine (wordLine i w (a .given .state))
+    worded w p = in-front (decimal-plain i) (in-front p (tail-line (a .given .state)))
 
-    named : (w : List ℕ) → Unbroken w → (segment : ℕ) → OneLine (namedLine i w segment (a .state))
-    named w p segment = in-front (decimal-plain i) (in-front p (in-front (decimal-plain segment) (tail-line (a .state))))
+    named : (w : List ℕ) → Unbroken w → (segment : ℕ) → OneLine (namedLine i w segment (a .given .state))
+    named w p segment = in-front (decimal-plain i) (in-front p (in-front (decimal-plain segment) (tail-line (a .given .state))))
 
-    by : (w : Way) → OneLine (wayLine i w (a .state))
+    by : (w : Way) → OneLine (wayLine i w (a .given .state))
     by Same = worded sameWord (word sameWord refl)
     by (Forward segment) = named forwardWord (word forwardWord refl) segment
     by (Reversed segment) = named reversedWord (word reversedWord refl) segment
@@ -122,32 +125,32 @@ module _ (kernel file : List ℕ) (ok : AskAccepted kernel file) where
   ask-marked : MarkedRight (ask.tableIn kernel) (ask.countIn kernel)
   ask-marked = marked-right kernel (emptyPlaces lentLimit) (ask.tableIn kernel) (ask.countIn kernel) left
 
-  answers-alone : (matrix : List ℕ) → ask.answersText 0 (ask.answersOf kernel file matrix) ≡ ask.answersText 0 (map (alone kernel) (ask.askings file matrix))
-  answers-alone matrix =
-      ap (ask.answersText 0) (no-memory (ask.tableIn kernel) (ask.countIn kernel) ask-marked lentLimit (evaluated Spk kernel) Blank (ask.askings file matrix))
+  answers-alone : (matrix : List ℕ) (frame : ℤ) → ask.answersText 0 (ask.answersOf kernel file matrix frame) ≡ ask.answersText 0 (map (alone kernel) (ask.askings file matrix frame))
+  answers-alone matrix frame =
+      ap (ask.answersText 0) (no-memory (ask.tableIn kernel) (ask.countIn kernel) ask-marked lentLimit (evaluated Spk kernel) Blank (ask.askings file matrix frame))
 
 pub ask-text : AskText
 unfolding ask.askText
-ask-text kernel file matrix ok =
-    answer-where refusalText (ask.answersText 0 (ask.answersOf kernel file matrix)) (ask.runCases kernel file) ok ∙ answers-alone kernel file ok matrix
+ask-text kernel file matrix frame ok =
+    answer-where refusalText (ask.answersText 0 (ask.answersOf kernel file matrix frame)) (ask.runCases kernel file) ok ∙ answers-alone kernel file ok matrix frame
 
 -- the lines of the answers to n questions from number i on
-by-number : (kernel file matrix : List ℕ) (i n : ℕ)
-    → ask.answersText i (map (alone kernel) (ask.askingsFrom file matrix i n)) ≡ numbered (λ k. answerText k (aloneAt kernel file matrix k)) i n
+by-number : (kernel file matrix : List ℕ) (frame : ℤ) (i n : ℕ)
+    → ask.answersText i (map (alone kernel) (ask.askingsFrom file matrix frame i n)) ≡ numbered (λ k. answerText k (aloneAt kernel file matrix frame k)) i n
 unfolding ask.answersText ask.askingsFrom
-by-number kernel file matrix i zero = refl
-by-number kernel file matrix i (suc n) = ap (λ (t : List ℕ). answerText i (aloneAt kernel file matrix i) ++ t) (by-number kernel file matrix (suc i) n)
+by-number kernel file matrix frame i zero = refl
+by-number kernel file matrix frame i (suc n) = ap (λ (t : List ℕ). answerText i (aloneAt kernel file matrix frame i) ++ t) (by-number kernel file matrix frame (suc i) n)
 
 pub ask-lines : AskLines
 unfolding ask.askText
-ask-lines kernel file matrix ok =
-    answered-lines (ask.runCases kernel file) (ask.answersText 0 (ask.answersOf kernel file matrix)) (ask.askText kernel file matrix) refl
-    (λ i. answerText i (aloneAt kernel file matrix i)) (λ i. answer-line i (aloneAt kernel file matrix i)) (ask.questionsIn file)
-    (answers-alone kernel file ok matrix ∙ by-number kernel file matrix 0 (ask.questionsIn file)) ok
+ask-lines kernel file matrix frame ok =
+    answered-lines (ask.runCases kernel file) (ask.answersText 0 (ask.answersOf kernel file matrix frame)) (ask.askText kernel file matrix frame) refl
+    (λ i. answerText i (aloneAt kernel file matrix frame i)) (λ i. answer-line i (aloneAt kernel file matrix frame i)) (ask.questionsIn file)
+    (answers-alone kernel file ok matrix frame ∙ by-number kernel file matrix frame 0 (ask.questionsIn file)) ok
 
 pub ask-refused : AskRefused
 unfolding ask.askText
-ask-refused kernel file matrix = refused-alone (ask.runCases kernel file) (ask.answersText 0 (ask.answersOf kernel file matrix)) (ask.askText kernel file matrix) refl
+ask-refused kernel file matrix frame = refused-alone (ask.runCases kernel file) (ask.answersText 0 (ask.answersOf kernel file matrix frame)) (ask.askText kernel file matrix frame) refl
 
 -- ---- a question is read from its own record alone
 same-32 : (s t : List ℕ) (a b : ℕ) → ((k : ℕ) → k < 4 → getD s (a + k) 0 ≡ getD t (b + k) 0) → le32 s a ≡ le32 t b
@@ -179,26 +182,26 @@ same-question file file' i j same =
     of : ℕ → ℕ → ℕ → spk.Question
     of t c e = record { target = signed32 t; center = signed32 c; et = doubleOf e }
 
-same-asking : (file file' matrix : List ℕ) (i j : ℕ) → SameRecord ask-records.questionSize file i file' j → ask.askingAt file matrix i ≡ ask.askingAt file' matrix j
-same-asking file file' matrix i j same =
-    ap (λ (q : spk.Question). cond (eqb (length matrix) matrixSize) (InFrame q (In EclipJ2000) (ask-records.rowsOf matrix)) (Plain q)) (same-question file file' i j same)
+same-asking : (file file' matrix : List ℕ) (frame : ℤ) (i j : ℕ) → SameRecord ask-records.questionSize file i file' j → ask.askingAt file matrix frame i ≡ ask.askingAt file' matrix frame j
+same-asking file file' matrix frame i j same =
+    ap (λ (q : spk.Question). cond (eqb (length matrix) matrixSize) (InFrame q (In frame) (ask-records.rowsOf matrix)) (Plain q)) (same-question file file' i j same)
 
 pub ask-interleaving : AskInterleaving
-ask-interleaving kernel file file' matrix ok ok' i j h h' same = (
-  aloneAt kernel file matrix i,
-  ask-lines kernel file matrix ok .each i h,
-  ask-lines kernel file' matrix ok' .each j h' ∙ ap (λ (a : Asking). answerText j (alone kernel a)) (sym (same-asking file file' matrix i j same)),
+ask-interleaving kernel file file' matrix frame ok ok' i j h h' same = (
+  aloneAt kernel file matrix frame i,
+  ask-lines kernel file matrix frame ok .each i h,
+  ask-lines kernel file' matrix frame ok' .each j h' ∙ ap (λ (a : Asking). answerText j (alone kernel a)) (sym (same-asking file file' matrix frame i j same)),
 )
 
 pub ask-line-stays : AskLineStays
-ask-line-stays kernel file file' matrix ok ok' i h h' same =
-    let both = ask-interleaving kernel file file' matrix ok ok' i i h h' same in
+ask-line-stays kernel file file' matrix frame ok ok' i h h' same =
+    let both = ask-interleaving kernel file file' matrix frame ok ok' i i h h' same in
     both .1 ∙ sym (both .2)
 
 -- ---- own bytes: with nothing remembered a question is answered as with no memory, so what holds of the one holds of the other
 pub ask-own-bytes : AskOwnBytes
-ask-own-bytes kernel kernel' file matrix ok ok' table count i h touched =
-    ask-lines kernel file matrix ok .each i h
+ask-own-bytes kernel kernel' file matrix frame ok ok' table count i h touched =
+    ask-lines kernel file matrix frame ok .each i h
     ∙ ap (answerText i)
     (sym (no-memory-once segs n (ask-marked kernel file ok) lentLimit (evaluated Spk kernel) Blank a)
     ∙ ap (λ (x : Asked). x .answer)
@@ -206,10 +209,10 @@ ask-own-bytes kernel kernel' file matrix ok ok' table count i h touched =
     (touched-replied lentLimit (evaluated Spk kernel) segs n Blank (λ s. SameDoubles kernel kernel' (seg segs s)) (AgreesAt kernel kernel' segs) (agrees kernel kernel' segs) a touched))
     ∙ no-memory-once segs n (ask-marked kernel file ok) lentLimit (evaluated Spk kernel') Blank a
     ∙ ap₂ (λ (l : List Segment) (m : ℕ). fresh lentLimit (evaluated Spk kernel') l m a) table count)
-    ∙ sym (ask-lines kernel' file matrix ok' .each i h)
+    ∙ sym (ask-lines kernel' file matrix frame ok' .each i h)
   where
     a : Asking
-    a = ask.askingAt file matrix i
+    a = ask.askingAt file matrix frame i
 
     segs : List Segment
     segs = ask.tableIn kernel
@@ -231,21 +234,28 @@ neither-long kernel file h l = or-none _ _ (le-ltb inputLimit (length kernel) h)
 
 pub ask-output : AskOutput
 unfolding ask.askOutput
-ask-output kernel file turned matrix = (
-  λ long. by-length _ true (cond (ask.unfit turned matrix) [] (ask.askText kernel file matrix)) (one long),
-  λ s given none. by-length _ false (cond (ask.unfit turned matrix) [] (ask.askText kernel file matrix)) (all-short s) ∙ fitted true (and-both turned _ given (ap not (ne-eqb _ _ none))),
-  λ s fits. by-length _ false (cond (ask.unfit turned matrix) [] (ask.askText kernel file matrix)) (all-short s) ∙ fitted false (⊎-elim (λ plain. sym (and-no turned _ plain) ∙ plain) (λ h. sized turned (eq-eqb _ _ h)) fits),
+ask-output kernel file turned matrix frame = (
+  λ long. by-length _ true text (one long),
+  λ s given none. by-length _ false text (all-short s) ∙ fitted true (and-both turned _ given (either none)),
+  λ s plain. by-length _ false text (all-short s) ∙ fitted false (sym (and-no turned _ plain) ∙ plain),
+  λ s h f e. by-length _ false text (all-short s) ∙ fitted false (sized turned (eq-eqb _ _ h) e) ∙ ap (λ (x : FrameArgument). ask.askText kernel file matrix (frameNumber x)) e,
 )
   where
+    text : List ℕ
+    text = ask.shortOutput kernel file turned matrix (frameNamed frame)
+
     all-short : AllShort kernel file matrix → (ltb inputLimit (length matrix) || tooLong kernel file) ≡ false
     all-short s = or-none _ _ (le-ltb inputLimit (length matrix) (s .matrix-fits)) (neither-long kernel file (s .kernel-fits) (s .file-fits))
 
-    fitted : (b : Bool) → ask.unfit turned matrix ≡ b → cond (ask.unfit turned matrix) [] (ask.askText kernel file matrix) ≡ cond b [] (ask.askText kernel file matrix)
-    fitted b e = ap (λ (u : Bool). cond u [] (ask.askText kernel file matrix)) e
+    fitted : (b : Bool) → ask.unfit turned matrix (frameNamed frame) ≡ b → text ≡ cond b [] (ask.askText kernel file matrix (frameNumber (frameNamed frame)))
+    fitted b e = ap (λ (u : Bool). cond u [] (ask.askText kernel file matrix (frameNumber (frameNamed frame)))) e
 
-    sized : (t : Bool) → eqb (length matrix) matrixSize ≡ true → ask.unfit t matrix ≡ false
-    sized true e = ap not e
-    sized false e = refl
+    either : (length matrix ≡ matrixSize → ⊥) ⊎ (frameNamed frame ≡ NoNumber) → (not (eqb (length matrix) matrixSize) || isNone (frameNamed frame)) ≡ true
+    either = ⊎-elim (λ h. or-left _ (isNone (frameNamed frame)) (ap not (ne-eqb _ _ h))) (λ e. or-right (not (eqb (length matrix) matrixSize)) _ (ap (λ (x : FrameArgument). isNone x) e))
+
+    sized : {f : ℤ} (t : Bool) → eqb (length matrix) matrixSize ≡ true → frameNamed frame ≡ Number f → ask.unfit t matrix (frameNamed frame) ≡ false
+    sized true e n = or-none _ _ (ap not e) (ap (λ (x : FrameArgument). isNone x) n)
+    sized false e n = refl
 
     one : (inputLimit < length kernel) ⊎ ((inputLimit < length file) ⊎ (inputLimit < length matrix)) → (ltb inputLimit (length matrix) || tooLong kernel file) ≡ true
     one = ⊎-elim (λ h. or-right (ltb inputLimit (length matrix)) _ (either-long kernel file (inl h)))

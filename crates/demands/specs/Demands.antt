@@ -49,8 +49,8 @@ answers k t m asks = run tableLimit (evaluated Spk k) (t .segments) (t .count) m
 abbrev pub freshAnswer : List ℕ → Table → Asking → Answer
 freshAnswer k t a = fresh tableLimit (evaluated Spk k) (t .segments) (t .count) a
 
--- **Demand 3, no-memory.** After an accepted opening, any sequence of questions of every kind, from any memory, gets one by one the answer and the
--- segment that the definition with no memory gives.
+-- **Demand 3, no-memory.** After an accepted opening, any sequence of questions of every kind, in whatever frame or in none, from any memory, gets one
+-- by one the answer, with the frame of its numbers, and the segment that the definition with no memory gives.
 abbrev pub Demand3 : Type 0
 Demand3 = (k : List ℕ) (t : Table) → OpenedAs Spk k t → (m : Memory) (asks : List Asking) → answers k t m asks ≡ map (freshAnswer k t) asks
 
@@ -149,7 +149,8 @@ abbrev pub lentReplied : List ℕ → List Segment → ℕ → Memory → Asking
 lentReplied k segs n m a = replied (limitOf (length segs)) (evaluated Spk k) segs n m a
 
 -- What a question of any kind results in, answered or refused, is the same over every other kernel with the same doubles of the segments that it
--- evaluates, and of no others: no other supplier's numbers flow into it. Nobody else writes the table in between: both questions find it alike.
+-- evaluates, and of no others: no other supplier's numbers flow into it. Nobody else writes the table in between: both questions find it alike, with
+-- the frames that it names. So an answer and the frame of its numbers depend on the table and those doubles, and on nothing else.
 abbrev pub LentOwnEvaluated : Type 0
 LentOwnEvaluated =
     (k k' : List ℕ) (segs segs' : List Segment) → segs' ≡ segs → (n : ℕ) (m : Memory) (a : Asking)

@@ -3,3 +3,4 @@ pub mod Demands
 pub mod Statements
 pub mod Indexed
 pub mod Outputs
+pub mod Frames

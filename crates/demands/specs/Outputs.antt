@@ -5,6 +5,7 @@ use mathlib.Core.Path.{_≡_}
 use mathlib.Core.Bool.{Bool, true, false}
 use mathlib.Core.Logic.{_⊎_}
 use mathlib.Core.List.{List, [], map}
+use lib.IntN.{ℤ}
 use lib.ListN.{length, getD}
 use Rattle.refusal.specs.declared.Refusal.the-variants.{InputTooLong}
 use Rattle.refusal.specs.Order.{Case, First, None, given}
@@ -24,6 +25,8 @@ use Rattle.streams.specs.Input.{inputLimit}
 use Rattle.admission.specs.Order.{matrixSize}
 use Rattle.ask_text.specs.Records as ask-records
 use Rattle.ask_text.specs.Lines.{answerText}
+use Rattle.ask_text.specs.declared.FrameArgument.the-variants.{Number, NoNumber}
+use Rattle.ask_text.specs.FrameText.{frameNamed, frameNumber}
 use Rattle.ask_text.specs.Text as ask
 use Rattle.orient_text.specs.Records as orient-records
 use Rattle.orient_text.specs.Lines.{orientedText}
@@ -50,47 +53,47 @@ AskAccepted kernel file = None (ask.runCases kernel file)
 abbrev pub alone : List ℕ → Asking → Answer
 alone kernel a = fresh lentLimit (evaluated Spk kernel) (ask.tableIn kernel) (ask.countIn kernel) a
 
--- .. to question i of a file, with its matrix file, which is empty where there is none.
-abbrev pub aloneAt : List ℕ → List ℕ → List ℕ → ℕ → Answer
-aloneAt kernel file matrix i = alone kernel (ask.askingAt file matrix i)
+-- .. to question i of a file, with its matrix file, which is empty where there is none, and the number of the frame that is then asked for.
+abbrev pub aloneAt : List ℕ → List ℕ → List ℕ → ℤ → ℕ → Answer
+aloneAt kernel file matrix frame i = alone kernel (ask.askingAt file matrix frame i)
 
 -- **Demand 3 of the bytes.** An accepted run's text is the lines of the answers with no memory ..
 abbrev pub AskText : Type 0
 AskText =
-    (kernel file matrix : List ℕ) → AskAccepted kernel file → ask.askText kernel file matrix ≡ ask.answersText 0 (map (alone kernel) (ask.askings file matrix))
+    (kernel file matrix : List ℕ) (frame : ℤ) → AskAccepted kernel file → ask.askText kernel file matrix frame ≡ ask.answersText 0 (map (alone kernel) (ask.askings file matrix frame))
 
 -- .. so it has as many lines as there are questions, and line i is that of the answer with no memory to question i.
 abbrev pub AskLines : Type 0
 AskLines =
-    (kernel file matrix : List ℕ) → AskAccepted kernel file
-    → Lined (ask.askText kernel file matrix) (ask.questionsIn file) (λ i. answerText i (aloneAt kernel file matrix i))
+    (kernel file matrix : List ℕ) (frame : ℤ) → AskAccepted kernel file
+    → Lined (ask.askText kernel file matrix frame) (ask.questionsIn file) (λ i. answerText i (aloneAt kernel file matrix frame i))
 
 -- Any other run has one line, that of its refusal.
 abbrev pub AskRefused : Type 0
-AskRefused = (kernel file matrix : List ℕ) → (AskAccepted kernel file → ⊥) → RefusalAlone (ask.runCases kernel file) (ask.askText kernel file matrix)
+AskRefused = (kernel file matrix : List ℕ) (frame : ℤ) → (AskAccepted kernel file → ⊥) → RefusalAlone (ask.runCases kernel file) (ask.askText kernel file matrix frame)
 
 -- **Interleaving of the bytes.** A question has the same answer wherever it stands, in whatever file: the lines differ in its number alone ..
 abbrev pub AskInterleaving : Type 0
 AskInterleaving =
-    (kernel file file' matrix : List ℕ) → AskAccepted kernel file → AskAccepted kernel file' → (i j : ℕ) → i < ask.questionsIn file → j < ask.questionsIn file'
+    (kernel file file' matrix : List ℕ) (frame : ℤ) → AskAccepted kernel file → AskAccepted kernel file' → (i j : ℕ) → i < ask.questionsIn file → j < ask.questionsIn file'
     → SameRecord ask-records.questionSize file i file' j
-    → (a : Answer) × (lineAt (ask.askText kernel file matrix) i ≡ answerText i a) × (lineAt (ask.askText kernel file' matrix) j ≡ answerText j a)
+    → (a : Answer) × (lineAt (ask.askText kernel file matrix frame) i ≡ answerText i a) × (lineAt (ask.askText kernel file' matrix frame) j ≡ answerText j a)
 
 -- .. so whatever else is asked, before it or after it, its line stays.
 abbrev pub AskLineStays : Type 0
 AskLineStays =
-    (kernel file file' matrix : List ℕ) → AskAccepted kernel file → AskAccepted kernel file' → (i : ℕ) → i < ask.questionsIn file → i < ask.questionsIn file'
-    → SameRecord ask-records.questionSize file i file' i → lineAt (ask.askText kernel file matrix) i ≡ lineAt (ask.askText kernel file' matrix) i
+    (kernel file file' matrix : List ℕ) (frame : ℤ) → AskAccepted kernel file → AskAccepted kernel file' → (i : ℕ) → i < ask.questionsIn file → i < ask.questionsIn file'
+    → SameRecord ask-records.questionSize file i file' i → lineAt (ask.askText kernel file matrix frame) i ≡ lineAt (ask.askText kernel file' matrix frame) i
 
 -- **Own bytes of a line.** Two kernels have the same table; a line is the same over both where they have the same doubles of the segments that its
 -- question evaluates: no other supplier's numbers flow into it.
 abbrev pub AskOwnBytes : Type 0
 AskOwnBytes =
-    (kernel kernel' file matrix : List ℕ) → AskAccepted kernel file → AskAccepted kernel' file
+    (kernel kernel' file matrix : List ℕ) (frame : ℤ) → AskAccepted kernel file → AskAccepted kernel' file
     → ask.tableIn kernel ≡ ask.tableIn kernel' → ask.countIn kernel ≡ ask.countIn kernel' → (i : ℕ) → i < ask.questionsIn file
-    → TouchedReplied lentLimit (evaluated Spk kernel) (ask.tableIn kernel) (ask.countIn kernel) Blank (ask.askingAt file matrix i)
+    → TouchedReplied lentLimit (evaluated Spk kernel) (ask.tableIn kernel) (ask.countIn kernel) Blank (ask.askingAt file matrix frame i)
     (λ s. SameDoubles kernel kernel' (seg (ask.tableIn kernel) s))
-    → lineAt (ask.askText kernel file matrix) i ≡ lineAt (ask.askText kernel' file matrix) i
+    → lineAt (ask.askText kernel file matrix frame) i ≡ lineAt (ask.askText kernel' file matrix frame) i
 
 -- Of the three files none is too long.
 pub record AllShort (kernel file matrix : List ℕ) : Type 0 where
@@ -98,13 +101,14 @@ pub record AllShort (kernel file matrix : List ℕ) : Type 0 where
   pub file-fits : length file ≤ inputLimit
   pub matrix-fits : length matrix ≤ inputLimit
 
--- **What the program prints.** Where a file is too long, the line of 18 alone; else nothing, where a matrix file is given (`turned`) that has not 72
--- bytes; else that text.
+-- **What the program prints**, `frame` being the text of FRAME. Where a file is too long, the line of 18 alone; else nothing, where a matrix file is given
+-- (`turned`) that has not 72 bytes, or FRAME is no number; else that text, with a matrix file in the frame that FRAME names.
 abbrev pub AskOutput : Type 0
-AskOutput = (kernel file : List ℕ) (turned : Bool) (matrix : List ℕ)
-    → ((inputLimit < length kernel) ⊎ ((inputLimit < length file) ⊎ (inputLimit < length matrix)) → ask.askOutput kernel file turned matrix ≡ refusalText InputTooLong)
-    × (AllShort kernel file matrix → turned ≡ true → (length matrix ≡ matrixSize → ⊥) → ask.askOutput kernel file turned matrix ≡ [])
-    × (AllShort kernel file matrix → (turned ≡ false) ⊎ (length matrix ≡ matrixSize) → ask.askOutput kernel file turned matrix ≡ ask.askText kernel file matrix)
+AskOutput = (kernel file : List ℕ) (turned : Bool) (matrix frame : List ℕ)
+    → ((inputLimit < length kernel) ⊎ ((inputLimit < length file) ⊎ (inputLimit < length matrix)) → ask.askOutput kernel file turned matrix frame ≡ refusalText InputTooLong)
+    × (AllShort kernel file matrix → turned ≡ true → (length matrix ≡ matrixSize → ⊥) ⊎ (frameNamed frame ≡ NoNumber) → ask.askOutput kernel file turned matrix frame ≡ [])
+    × (AllShort kernel file matrix → turned ≡ false → ask.askOutput kernel file turned matrix frame ≡ ask.askText kernel file matrix (frameNumber (frameNamed frame)))
+    × (AllShort kernel file matrix → length matrix ≡ matrixSize → (f : ℤ) → frameNamed frame ≡ Number f → ask.askOutput kernel file turned matrix frame ≡ ask.askText kernel file matrix f)
 
 -- ---- `orient`, which remembers nothing
 

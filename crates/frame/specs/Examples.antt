@@ -2,13 +2,16 @@
 use Prim.Native.Nat.{ℕ, _+_, _*_}
 use mathlib.Core.Path.{_≡_, refl}
 use mathlib.Core.Bool.{true, false}
-use mathlib.Core.List.{[], _∷_, map}
+use mathlib.Core.List.{List, [], _∷_, map}
+use lib.IntN.{ℤ, pos}
 use lib.Ieee.{Float, nan, inf, add, sub, mul, neg, ofInt, ofBits, binary64}
 use Rattle.bits.specs.F64.{+0, whole}
 use Rattle.frame.specs.State.{stateOf, zeroState, negatedState, plusState, minusState, finiteState}
-use Rattle.frame.specs.Frame.{Matrix, matrix, turnedState, transposeOf, turnedBetween}
+use Rattle.frame.specs.Frame.{Matrix, matrix, turnedState, transposeOf}
 use Rattle.frame.specs.declared.State.{State}
-use Rattle.frame.specs.declared.NaifFrame.the-variants.{J2000, EclipJ2000}
+use Rattle.frame.specs.Framed.{joined, turnOf}
+use Rattle.frame.specs.declared.Framed.the-variants.{Nothing, One, Mixed}
+use Rattle.frame.specs.declared.Turn.the-variants.{Stands, Forth, Back, Never}
 
 -- A whole number below zero; -0 of 0.
 abbrev pub minus : ℕ → Float
@@ -39,13 +42,13 @@ abbrev pub nine : Matrix
 nine = matrix 3 (λ i j. whole (3 * i + j + 1))
 
 -- The quarter turn of (1, 2, 3, 4, 5, 6) from J2000 to ECLIPJ2000.
-pub to-ecliptic : turnedBetween J2000 EclipJ2000 quarter counted ≡ state (whole 2) (minus 1) (whole 3) (whole 5) (minus 4) (whole 6)
-unfolding turnedBetween add mul neg ofInt
+pub to-ecliptic : turnedState quarter counted ≡ state (whole 2) (minus 1) (whole 3) (whole 5) (minus 4) (whole 6)
+unfolding add mul neg ofInt
 to-ecliptic = refl
 
 -- And back, by the transpose.
-pub from-ecliptic : turnedBetween EclipJ2000 J2000 quarter (state (whole 2) (minus 1) (whole 3) (whole 5) (minus 4) (whole 6)) ≡ counted
-unfolding turnedBetween add mul neg ofInt
+pub from-ecliptic : turnedState (transposeOf quarter) (state (whole 2) (minus 1) (whole 3) (whole 5) (minus 4) (whole 6)) ≡ counted
+unfolding add mul neg ofInt
 from-ecliptic = refl
 
 -- The unit matrix leaves -0 as it is: a sum that started at +0 would give +0.
@@ -79,3 +82,18 @@ pub finites : map finiteState
     ≡ true ∷ true ∷ false ∷ false ∷ false ∷ false ∷ false ∷ false ∷ []
 unfolding finiteState zeroState ofBits
 finites = refl
+
+abbrev frames : List ℤ
+frames = pos 1 ∷ pos 17 ∷ pos 13 ∷ []
+
+-- Nothing joins as nothing; a frame with itself is itself, with another several; and several stay several.
+pub joins :
+    joined Nothing (One (pos 17)) ∷ joined (One (pos 17)) Nothing ∷ joined (One (pos 17)) (One (pos 17)) ∷ joined (One (pos 1)) (One (pos 17)) ∷ joined Mixed (One (pos 1)) ∷ joined (One (pos 1)) Mixed ∷ joined Mixed Nothing ∷ []
+    ≡ One (pos 17) ∷ One (pos 17) ∷ One (pos 17) ∷ Mixed ∷ Mixed ∷ Mixed ∷ Mixed ∷ []
+joins = refl
+
+-- A state in 1, 17 and 13, asked in 1, 17 and 13; numbers of several frames, and of none.
+pub turns :
+    map (turnOf (One (pos 1))) frames ∷ map (turnOf (One (pos 17))) frames ∷ map (turnOf (One (pos 13))) frames ∷ map (turnOf Mixed) frames ∷ map (turnOf Nothing) frames ∷ []
+    ≡ (Stands ∷ Forth ∷ Never ∷ []) ∷ (Back ∷ Stands ∷ Never ∷ []) ∷ (Never ∷ Never ∷ Stands ∷ []) ∷ (Never ∷ Never ∷ Never ∷ []) ∷ (Never ∷ Never ∷ Never ∷ []) ∷ []
+turns = refl

@@ -9,8 +9,6 @@ use lib.Ieee.{Float}
 use Rattle.bits.specs.F64.{_⊗_, at, sumTo}
 use Rattle.frame.specs.State.{number, stateOf}
 use Rattle.frame.specs.declared.State.{State}
-use Rattle.frame.specs.declared.NaifFrame.{NaifFrame}
-use Rattle.frame.specs.declared.NaifFrame.the-variants.{J2000, EclipJ2000}
 
 -- A matrix, row by row.
 abbrev pub Matrix : Type 0
@@ -40,10 +38,3 @@ turnedState m s = stateOf (λ k. cond (ltb k 3) (turned m (number s) k) (turned 
 -- Row i is column i.
 abbrev pub transposeOf : Matrix → Matrix
 transposeOf m = matrix 3 (λ i j. cell m j i)
-
--- A state of the first frame in the second: m turns J2000 to ECLIPJ2000, its transpose turns back, and in its own frame a state stays as it stands.
-unfoldable pub turnedBetween : NaifFrame → NaifFrame → Matrix → State → State
-turnedBetween J2000 J2000 m s = s
-turnedBetween J2000 EclipJ2000 m s = turnedState m s
-turnedBetween EclipJ2000 J2000 m s = turnedState (transposeOf m) s
-turnedBetween EclipJ2000 EclipJ2000 m s = s

@@ -1,9 +1,12 @@
-// States, and the 3 by 3 matrices that turn them. A matrix is given row by row, as an array of arrays by value.
+// States, the 3 by 3 matrices that turn them, and the frames of their numbers. A matrix is given row by row, as an array of arrays by value.
 // The Rust's loops over 3 places are written out: the operations and their order stay.
 
 ghost use mathlib.Core.Path.{_≡_};
 ghost use Rattle.frame.specs.State.{zeroState, negatedState, plusState, minusState, finiteState};
-ghost use Rattle.frame.specs.Frame.{turnedState, transposeOf, turnedBetween};
+ghost use Rattle.bits.specs.Same.{sameZ};
+ghost use Rattle.frame.specs.Frame.{turnedState, transposeOf};
+ghost use Rattle.frame.specs.Framed.{isForth, turnFrom, turnOf, joinedOne, joinedWith, joined};
+ghost use Rattle.frame.specs.Given.{nothingGiven, givenOf, negatedGiven, plusGiven, minusGiven, turnedGiven};
 
 // Position and velocity.
 pub struct State {
@@ -93,12 +96,6 @@ impl State {
     }
 }
 
-// The frames that a state is turned between.
-pub enum NaifFrame {
-    J2000,
-    EclipJ2000,
-}
-
 // A state times a 3 by 3 matrix, position and velocity alike: each sum starts with its first product.
 pub fn rotate_state_inertial(rot: [[f64; 3]; 3], s: State) -> State
     ensures { λ r. ⌜ r ≡ turnedState rot s ⌝ }
@@ -127,18 +124,196 @@ pub fn transpose(m: [[f64; 3]; 3]) -> [[f64; 3]; 3]
     ]
 }
 
-// A state of the frame `from` in the frame `to`: `rot` turns J2000 to ECLIPJ2000, its transpose turns back.
-pub fn rotate_state(from: NaifFrame, to: NaifFrame, rot: [[f64; 3]; 3], s: State) -> State
-    ensures { λ r. ⌜ r ≡ turnedBetween from to rot s ⌝ }
+// ---- the frame of numbers
+
+// The frames that a state is turned between, by their numbers.
+pub const J2000: i32 = 1;
+
+pub const ECLIPJ2000: i32 = 17;
+
+// The frame of the numbers that segments gave: no segment has entered, all were of this frame, or they were of several.
+pub enum Framed {
+    Nothing,
+    One(i32),
+    Mixed,
+}
+
+// How a state is turned to a frame: it stands, the matrix turns it, its transpose does, or nothing.
+pub enum Turn {
+    Stands,
+    Forth,
+    Back,
+    Never,
+}
+
+// Two frames, by their numbers.
+struct Frames {
+    from: i32,
+    to: i32,
+}
+
+impl Frames {
+    // They are one.
+    fn is_one(self) -> bool
+        ensures { λ r. ⌜ r ≡ sameZ (self .from) (self .to) ⌝ }
+    {
+        self.from == self.to
+    }
+
+    // The first is J2000, and the second ECLIPJ2000.
+    fn is_forth(self) -> bool
+        ensures { λ r. ⌜ r ≡ isForth (self .from) (self .to) ⌝ }
+    {
+        self.from == J2000 && self.to == ECLIPJ2000
+    }
+
+    // The frame that both are, or several.
+    fn joined(self) -> Framed
+        ensures { λ r. ⌜ r ≡ joinedOne (self .from) (self .to) ⌝ }
+    {
+        if self.is_one() {
+            Framed::One(self.from)
+        } else {
+            Framed::Mixed
+        }
+    }
+
+    // The same two, the other way round.
+    fn swapped(self) -> Frames
+        ensures { λ r. ⌜ r ≡ record { from = self .to; to = self .from } ⌝ }
+    {
+        Frames {
+            from: self.to,
+            to: self.from,
+        }
+    }
+
+    // How a state of the first is turned to the second.
+    fn turn(self) -> Turn
+        ensures { λ r. ⌜ r ≡ turnFrom (self .from) (self .to) ⌝ }
+    {
+        if self.is_one() {
+            return Turn::Stands;
+        }
+        if self.is_forth() {
+            return Turn::Forth;
+        }
+        if self.swapped().is_forth() {
+            return Turn::Back;
+        }
+        Turn::Never
+    }
+}
+
+// The frame of a segment's numbers with others that may be of none or several.
+fn joined_with(f: i32, b: Framed) -> Framed
+    ensures { λ r. ⌜ r ≡ joinedWith f b ⌝ }
 {
-    match from {
-        NaifFrame::J2000 => match to {
-            NaifFrame::J2000 => s,
-            NaifFrame::EclipJ2000 => rotate_state_inertial(rot, s),
-        },
-        NaifFrame::EclipJ2000 => match to {
-            NaifFrame::J2000 => rotate_state_inertial(transpose(rot), s),
-            NaifFrame::EclipJ2000 => s,
-        },
+    match b {
+        Framed::Nothing => Framed::One(f),
+        Framed::One(g) => Frames { from: f, to: g }.joined(),
+        Framed::Mixed => Framed::Mixed,
+    }
+}
+
+impl Framed {
+    // The frame of two sums together.
+    pub fn joined(self, b: Framed) -> Framed
+        ensures { λ r. ⌜ r ≡ joined self b ⌝ }
+    {
+        match self {
+            Framed::Nothing => b,
+            Framed::One(f) => joined_with(f, b),
+            Framed::Mixed => Framed::Mixed,
+        }
+    }
+
+    // How numbers of this frame are turned to a frame.
+    pub fn turn(self, to: i32) -> Turn
+        ensures { λ r. ⌜ r ≡ turnOf self to ⌝ }
+    {
+        match self {
+            Framed::Nothing => Turn::Never,
+            Framed::One(f) => Frames { from: f, to: to }.turn(),
+            Framed::Mixed => Turn::Never,
+        }
+    }
+}
+
+// ---- a state, with what is known of it
+
+// A state that segments gave, and the frame of its numbers.
+pub struct Given {
+    pub state: State,
+    pub frame: Framed,
+}
+
+impl Given {
+    // Six times +0, which no segment gave: what a sum starts with.
+    pub fn nothing() -> Given
+        ensures { λ r. ⌜ r ≡ nothingGiven ⌝ }
+    {
+        let state = State::zero();
+        Given {
+            state: state,
+            frame: Framed::Nothing,
+        }
+    }
+
+    // A state in a frame.
+    pub fn of(state: State, frame: i32) -> Given
+        ensures { λ r. ⌜ r ≡ givenOf state frame ⌝ }
+    {
+        Given {
+            state: state,
+            frame: Framed::One(frame),
+        }
+    }
+
+    // All six numbers negated.
+    pub fn negated(self) -> Given
+        ensures { λ r. ⌜ r ≡ negatedGiven self ⌝ }
+    {
+        let state = self.state.negated();
+        let frame = self.frame;
+        Given {
+            state: state,
+            frame: frame,
+        }
+    }
+
+    // The sum.
+    pub fn plus(self, b: Given) -> Given
+        ensures { λ r. ⌜ r ≡ plusGiven self b ⌝ }
+    {
+        let state = self.state.plus(b.state);
+        let one = self.frame;
+        let other = b.frame;
+        let frame = one.joined(other);
+        Given {
+            state: state,
+            frame: frame,
+        }
+    }
+
+    // The difference.
+    pub fn minus(self, b: Given) -> Given
+        ensures { λ r. ⌜ r ≡ minusGiven self b ⌝ }
+    {
+        let state = self.state.minus(b.state);
+        let one = self.frame;
+        let other = b.frame;
+        let frame = one.joined(other);
+        Given {
+            state: state,
+            frame: frame,
+        }
+    }
+
+    // The state turned by a matrix to a frame.
+    pub fn turned(self, rot: [[f64; 3]; 3], to: i32) -> Given
+        ensures { λ r. ⌜ r ≡ turnedGiven rot to self ⌝ }
+    {
+        Given::of(rotate_state_inertial(rot, self.state), to)
     }
 }

@@ -8,7 +8,7 @@ use native.Mathlib.Omega.{arith}
 use lib.ListN.{length}
 use Rattle.bits.proofs.Tests.{by-test, and-first, sameZ-eq}
 use Rattle.segment.specs.declared.Segment.{Segment}
-use Rattle.segment.specs.declared.Evaluated.{Evaluated}
+use Rattle.chain.specs.declared.Yielded.{Yielded}
 use Rattle.table.specs.declared.Choice.{Choice}
 use Rattle.table.specs.declared.Choice.the-variants.{At, Nothing}
 use Rattle.table.specs.Segments.{seg}
@@ -19,7 +19,7 @@ use Rattle.index.specs.Parts.{lastOf, belowOf, firstOf, aboveOf, hasRoom, Roomy
 use Rattle.index.proofs.Right.{last-by-index}
 use Rattle.index.proofs.Turns.{last-by-within}
 use Rattle.index.proofs.Parts.{room-yes, length-last, length-first}
-use Rattle.chain.specs.Step.{Evaluation}
+use Rattle.chain.specs.Step.{Evaluation, yieldOf}
 use Rattle.chain.specs.Walk.{chainLimit}
 use Rattle.chain.specs.Steps.{begin}
 use Rattle.spk.specs.declared.Question.{Question}
@@ -66,7 +66,7 @@ module _ (segs : List Segment) (n : ℕ) (ix : List ℕ) (m : Memory) (q : Quest
 
 -- ---- the chain
 module _ (ev : Evaluation) (segs : List Segment) (n : ℕ) (ix : List ℕ) (q : Question) where
-  abbrev goes : Question → Evaluated
+  abbrev goes : Question → Yielded
   goes x = onBy (stepBy ev segs n (firstOf ix) (aboveOf ix)) chainLimit (begin (legFrom x))
 
   pub chained-told : differenceOf (goes q) (goes (swapped q)) ≡ chainedBy ev segs n ix q
@@ -83,7 +83,7 @@ module _ (ev : Evaluation) (segs : List Segment) (n : ℕ) (ix : List ℕ) (q : 
   backs : Choice → Answer
   backs c = answerTo (backOr ev segs q (chainedBy ev segs n ix q) c)
 
-  pub back-at : placeIn back n < n → let i = placeIn back n in settled (Reversed i) (negatedOf (ev (seg segs i) i (q .et))) ≡ answerTo (backwardBy ev segs n ix q)
+  pub back-at : placeIn back n < n → let i = placeIn back n in settled (Reversed i) (negatedOf (yieldOf (seg segs i) (ev (seg segs i) i (q .et)))) ≡ answerTo (backwardBy ev segs n ix q)
   unfolding backwardBy backs
   back-at l = sym (ap backs (at-place n back l))
 
@@ -108,7 +108,7 @@ module _ (limit : ℕ) (ev : Evaluation) (segs : List Segment) (n : ℕ) (ix : L
   by-choice e d f = sym (ap ways e ∙ ap (chosenAsked ev segs n ix m q) f)
 
   pub through-at : isEarly limit n q ≡ false → let i = placeIn c n in i < n
-      → record { answer = settled (Forward i) (ev (seg segs i) i (q .et)); memory = rememberedAt m i (seg segs i) } ≡ askedThrough limit ev segs n ix m q
+      → record { answer = settled (Forward i) (yieldOf (seg segs i) (ev (seg segs i) i (q .et))); memory = rememberedAt m i (seg segs i) } ≡ askedThrough limit ev segs n ix m q
   through-at e l = by-choice e (At (placeIn c n)) (at-place n c l)
 
   pub through-back : isEarly limit n q ≡ false → n ≤ placeIn c n → record { answer = answerTo (backwardBy ev segs n ix q); memory = m } ≡ askedThrough limit ev segs n ix m q

@@ -30,7 +30,7 @@ use denote.Triple.Clauses.{ensured, lasts}
 use denote.Triple.Walked.{says}
 use Rattle.daf.specs.declared.Family.the-variants.{Spk}
 use Rattle.segment.specs.declared.Segment.{Segment}
-use Rattle.segment.specs.declared.Evaluated.{Evaluated}
+use Rattle.chain.specs.declared.Yielded.{Yielded}
 use Rattle.segment.specs.Evaluating.{evaluated}
 use Rattle.table.specs.declared.Choice.{Choice}
 use Rattle.table.specs.Places.{lentLimit}
@@ -54,7 +54,7 @@ use Rattle.pck.specs.Told.{orientedTold}
 use Rattle.lent.proofs.Telling.{first-said}
 use Rattle.lent.proofs.Seg.{Seg, val, makes}
 use Rattle.lent.proofs.Matrices.{Mat, mat, mat-makes}
-use Rattle.lent.proofs.Rows.{Cho, cho, cho-tells, cho-makes, Que, que, que-makes, Mem, mmy, mmy-makes, Lg, leg, leg-makes, Stp, stp, stp-tells, stp-makes, Nex, nex, nex-makes, Eva, eva, eva-tells, Ans, ans, ans-tells, Ask, ask, ask-tells, Wan, wan, wan-makes, Bod, bod, bod-makes, Ori, ori, ori-tells, Pla, pla, pla-makes}
+use Rattle.lent.proofs.Rows.{Cho, cho, cho-tells, cho-makes, Que, que, que-makes, Mem, mmy, mmy-makes, Lg, leg, leg-makes, Stp, stp, stp-tells, stp-makes, Nex, nex, nex-makes, Yie, yie, yie-tells, Ans, ans, ans-tells, Ask, ask, ask-tells, Wan, wan, wan-makes, Bod, bod, bod-makes, Ori, ori, ori-tells, Pla, pla, pla-makes}
 use Rattle.lent.proofs.Calls.{ShrOwn, calls-told, passes-shr, passes-both, passes-three}
 use denote.Builtin.{u16}
 use Prim.Native.Nat.{suc, _-_}
@@ -477,28 +477,28 @@ module _ {M : Type 1} (𝓤 : URA M) (H : Heap 𝓤) (A : Atoms 𝓤) (mem : Mem
     abbrev pub to-walk-by : the-walk-by .Ghost
     to-walk-by = (((κ, (κ′, (κ″, tt))), (q, (q′, (q″, tt))), tt, (k, (t, (x, (n, (a, (w, tt)))))), (sliceVal (k .ptr) (length (k .now)) ∷ [], (sliceVal (t .ptr) (length (t .now)) ∷ [], (sliceVal (x .ptr) (length (x .now)) ∷ [], (vint w64 n ∷ [], (nex a ∷ [], (vint w32 w ∷ [], tt))))))), tt)
 
-    abbrev pub out-walk-by : Evaluated
+    abbrev pub out-walk-by : Yielded
     out-walk-by = follow (λ (on : Leg). walkBy (stepBy (evaluated Spk (k .now)) (t .now) n (firstOf (x .now)) (aboveOf (x .now))) on w) a
 
     module _ (W : Given 𝓤 H A) where
       asks-walk-by : (((n ≤ length (t .now)) × (n ≤ lentLimit)) × Roomy n (x .now)) → Is usize n (vint w64 n ∷ []) → Is Nex a (nex a ∷ []) → Is u32 w (vint w32 w ∷ []) → ent 𝓤 (⋆ 𝓤 H A (((‵ (flft κ q) ⊛ ‵ (flft κ′ q′) ⊛ ‵ (flft κ″ q″) ⊛ ‵ ftrue) ⊛ ‵ (ShrOwn u8 κ k)) ∷ ‵ (ShrOwn Seg κ′ t) ∷ ‵ (ShrOwn u16 κ″ x) ∷ [])) (the-walk-by .pre to-walk-by)
       asks-walk-by within is-n is-a is-w = qed W (((‵ (flft κ q) ⊛ ‵ (flft κ′ q′) ⊛ ‵ (flft κ″ q″) ⊛ ‵ ftrue) ⊛ ‵ (ShrOwn u8 κ k)) ∷ ‵ (ShrOwn Seg κ′ t) ∷ ‵ (ShrOwn u16 κ″ x) ∷ []) ∵ says ! within $ split ! $ frame ! $ nothing ! $ owned ! u32 (Is u32) (uint-makes 𝓤 H A W w32) w _ is-w $ fjoin ! $ owned ! Nex (Is Nex) (nex-makes 𝓤 H A W) a _ is-a $ fjoin ! $ owned ! usize (Is usize) (uint-makes 𝓤 H A W w64) n _ is-n $ fjoin ! $ move ! (3 ∷ 0 ∷ []) $ fjoin ! $ move ! (2 ∷ 0 ∷ []) $ fjoin ! $ move ! (1 ∷ 0 ∷ []) $ fjoin ! $ done !
 
-      said-walk-by : (r : Evaluated) → ent 𝓤 (ensured 𝓤 H A m-walk-by.ended (m-walk-by.clauses 𝓤 H A mem run) (κ, (κ′, (κ″, tt))) (k, (t, (x, (n, (a, (w, tt)))))) tt r) (fact 𝓤 (r ≡ out-walk-by))
+      said-walk-by : (r : Yielded) → ent 𝓤 (ensured 𝓤 H A m-walk-by.ended (m-walk-by.clauses 𝓤 H A mem run) (κ, (κ′, (κ″, tt))) (k, (t, (x, (n, (a, (w, tt)))))) tt r) (fact 𝓤 (r ≡ out-walk-by))
       said-walk-by r = exE 𝓤 _ (λ ws. snd∗ 𝓤 (sem 𝓤 H A (lasts m-walk-by.ended (κ, (κ′, (κ″, tt))) (k, (t, (x, (n, (a, (w, tt)))))) ws)) (fact 𝓤 (r ≡ out-walk-by)))
 
       module _ {C : Calls 𝓤 H} {Λ : Loops 𝓤 H} {E : Env 𝓤 H} {Γ : List (Item 𝓤)} {xs : List Opd} {d : Place} {rest : Body} {Q : Post 𝓤 H} where
         pub recurs-walk-by : FmC 𝓤 H (W .laws) C → ent 𝓤 (the-walk-by .pre to-walk-by) (C #walk-by (the-walk-by .args to-walk-by) (the-walk-by .post to-walk-by)) → (((n ≤ length (t .now)) × (n ≤ lentLimit)) × Roomy n (x .now)) → Is usize n (vint w64 n ∷ []) → Is Nex a (nex a ∷ []) → Is u32 w (vint w32 w ∷ [])
             → Opds (Go {0}) W (raw (the-walk-by .pre to-walk-by) ∷ ‵ (ShrOwn u16 κ″ x) ∷ ‵ (ShrOwn Seg κ′ t) ∷ ‵ (ShrOwn u8 κ k) ∷ Γ) E xs (sliceVal (k .ptr) (length (k .now)) ∷ sliceVal (t .ptr) (length (t .now)) ∷ sliceVal (x .ptr) (length (x .now)) ∷ vint w64 n ∷ nex a ∷ vint w32 w ∷ [])
-            → (Is Eva out-walk-by (eva out-walk-by ∷ []) → Sq W (‵ (ShrOwn u8 κ k) ∷ ‵ (flft κ q) ∷ ‵ (ShrOwn Seg κ′ t) ∷ ‵ (flft κ′ q′) ∷ ‵ (ShrOwn u16 κ″ x) ∷ ‵ (flft κ″ q″) ∷ Γ) (lands C Λ E d (eva out-walk-by) rest Q))
+            → (Is Yie out-walk-by (yie out-walk-by ∷ []) → Sq W (‵ (ShrOwn u8 κ k) ∷ ‵ (flft κ q) ∷ ‵ (ShrOwn Seg κ′ t) ∷ ‵ (flft κ′ q′) ∷ ‵ (ShrOwn u16 κ″ x) ∷ ‵ (flft κ″ q″) ∷ Γ) (lands C Λ E d (yie out-walk-by) rest Q))
             → Sq W (‵ (ShrOwn u8 κ k) ∷ ‵ (flft κ q) ∷ ‵ (ShrOwn Seg κ′ t) ∷ ‵ (flft κ′ q′) ∷ ‵ (ShrOwn u16 κ″ x) ∷ ‵ (flft κ″ q″) ∷ Γ) (runs C Λ E (seq (call #walk-by xs d) rest) Q)
         recurs-walk-by fm known within is-n is-a is-w os go =
             passes-three u8 Seg u16 κ κ′ κ″ q q′ q″ k t x (the-walk-by .pre to-walk-by) (asks-walk-by within is-n is-a is-w)
-            (calls-told fm the-walk-by to-walk-by known Eva eva (eva-tells) (‵ (flft κ q) ⊛ ‵ (flft κ′ q′) ⊛ ‵ (flft κ″ q″) ⊛ ‵ ftrue) (λ r. ensured 𝓤 H A m-walk-by.ended (m-walk-by.clauses 𝓤 H A mem run) (κ, (κ′, (κ″, tt))) (k, (t, (x, (n, (a, (w, tt)))))) tt r) (λ u. id⊢ 𝓤 _) out-walk-by said-walk-by os (λ is. split ! $ move ! (1 ∷ []) $ split ! $ move ! (1 ∷ []) $ split ! $ move ! (1 ∷ []) $ drop ! $ move ! (5 ∷ 2 ∷ 4 ∷ 1 ∷ 3 ∷ 0 ∷ []) $ go is))
+            (calls-told fm the-walk-by to-walk-by known Yie yie (yie-tells) (‵ (flft κ q) ⊛ ‵ (flft κ′ q′) ⊛ ‵ (flft κ″ q″) ⊛ ‵ ftrue) (λ r. ensured 𝓤 H A m-walk-by.ended (m-walk-by.clauses 𝓤 H A mem run) (κ, (κ′, (κ″, tt))) (k, (t, (x, (n, (a, (w, tt)))))) tt r) (λ u. id⊢ 𝓤 _) out-walk-by said-walk-by os (λ is. split ! $ move ! (1 ∷ []) $ split ! $ move ! (1 ∷ []) $ split ! $ move ! (1 ∷ []) $ drop ! $ move ! (5 ∷ 2 ∷ 4 ∷ 1 ∷ 3 ∷ 0 ∷ []) $ go is))
 
         pub calls-walk-by : FmC 𝓤 H (W .laws) C → Triple 𝓤 (C #walk-by) the-walk-by → (((n ≤ length (t .now)) × (n ≤ lentLimit)) × Roomy n (x .now)) → Is usize n (vint w64 n ∷ []) → Is Nex a (nex a ∷ []) → Is u32 w (vint w32 w ∷ [])
             → Opds (Go {0}) W (raw (the-walk-by .pre to-walk-by) ∷ ‵ (ShrOwn u16 κ″ x) ∷ ‵ (ShrOwn Seg κ′ t) ∷ ‵ (ShrOwn u8 κ k) ∷ Γ) E xs (sliceVal (k .ptr) (length (k .now)) ∷ sliceVal (t .ptr) (length (t .now)) ∷ sliceVal (x .ptr) (length (x .now)) ∷ vint w64 n ∷ nex a ∷ vint w32 w ∷ [])
-            → (Is Eva out-walk-by (eva out-walk-by ∷ []) → Sq W (‵ (ShrOwn u8 κ k) ∷ ‵ (flft κ q) ∷ ‵ (ShrOwn Seg κ′ t) ∷ ‵ (flft κ′ q′) ∷ ‵ (ShrOwn u16 κ″ x) ∷ ‵ (flft κ″ q″) ∷ Γ) (lands C Λ E d (eva out-walk-by) rest Q))
+            → (Is Yie out-walk-by (yie out-walk-by ∷ []) → Sq W (‵ (ShrOwn u8 κ k) ∷ ‵ (flft κ q) ∷ ‵ (ShrOwn Seg κ′ t) ∷ ‵ (flft κ′ q′) ∷ ‵ (ShrOwn u16 κ″ x) ∷ ‵ (flft κ″ q″) ∷ Γ) (lands C Λ E d (yie out-walk-by) rest Q))
             → Sq W (‵ (ShrOwn u8 κ k) ∷ ‵ (flft κ q) ∷ ‵ (ShrOwn Seg κ′ t) ∷ ‵ (flft κ′ q′) ∷ ‵ (ShrOwn u16 κ″ x) ∷ ‵ (flft κ″ q″) ∷ Γ) (runs C Λ E (seq (call #walk-by xs d) rest) Q)
         calls-walk-by fm known = recurs-walk-by fm (known to-walk-by)
 
@@ -507,24 +507,24 @@ module _ {M : Type 1} (𝓤 : URA M) (H : Heap 𝓤) (A : Atoms 𝓤) (mem : Mem
     abbrev pub to-chained-by : the-chained-by .Ghost
     to-chained-by = (((κ, (κ′, (κ″, tt))), (q, (q′, (q″, tt))), tt, (k, (t, (x, (n, (y, tt))))), (sliceVal (k .ptr) (length (k .now)) ∷ [], (sliceVal (t .ptr) (length (t .now)) ∷ [], (sliceVal (x .ptr) (length (x .now)) ∷ [], (vint w64 n ∷ [], (que y ∷ [], tt)))))), tt)
 
-    abbrev pub out-chained-by : Evaluated
+    abbrev pub out-chained-by : Yielded
     out-chained-by = chainedBy (evaluated Spk (k .now)) (t .now) n (x .now) y
 
     module _ (W : Given 𝓤 H A) where
       asks-chained-by : (((n ≤ length (t .now)) × (n ≤ lentLimit)) × Roomy n (x .now)) → Is usize n (vint w64 n ∷ []) → Is Que y (que y ∷ []) → ent 𝓤 (⋆ 𝓤 H A (((‵ (flft κ q) ⊛ ‵ (flft κ′ q′) ⊛ ‵ (flft κ″ q″) ⊛ ‵ ftrue) ⊛ ‵ (ShrOwn u8 κ k)) ∷ ‵ (ShrOwn Seg κ′ t) ∷ ‵ (ShrOwn u16 κ″ x) ∷ [])) (the-chained-by .pre to-chained-by)
       asks-chained-by within is-n is-y = qed W (((‵ (flft κ q) ⊛ ‵ (flft κ′ q′) ⊛ ‵ (flft κ″ q″) ⊛ ‵ ftrue) ⊛ ‵ (ShrOwn u8 κ k)) ∷ ‵ (ShrOwn Seg κ′ t) ∷ ‵ (ShrOwn u16 κ″ x) ∷ []) ∵ says ! within $ split ! $ frame ! $ nothing ! $ owned ! Que (Is Que) (que-makes 𝓤 H A W) y _ is-y $ fjoin ! $ owned ! usize (Is usize) (uint-makes 𝓤 H A W w64) n _ is-n $ fjoin ! $ move ! (3 ∷ 0 ∷ []) $ fjoin ! $ move ! (2 ∷ 0 ∷ []) $ fjoin ! $ move ! (1 ∷ 0 ∷ []) $ fjoin ! $ done !
 
-      said-chained-by : (r : Evaluated) → ent 𝓤 (ensured 𝓤 H A m-chained-by.ended (m-chained-by.clauses 𝓤 H A mem run) (κ, (κ′, (κ″, tt))) (k, (t, (x, (n, (y, tt))))) tt r) (fact 𝓤 (r ≡ out-chained-by))
+      said-chained-by : (r : Yielded) → ent 𝓤 (ensured 𝓤 H A m-chained-by.ended (m-chained-by.clauses 𝓤 H A mem run) (κ, (κ′, (κ″, tt))) (k, (t, (x, (n, (y, tt))))) tt r) (fact 𝓤 (r ≡ out-chained-by))
       said-chained-by r = exE 𝓤 _ (λ ws. snd∗ 𝓤 (sem 𝓤 H A (lasts m-chained-by.ended (κ, (κ′, (κ″, tt))) (k, (t, (x, (n, (y, tt))))) ws)) (fact 𝓤 (r ≡ out-chained-by)))
 
       module _ {C : Calls 𝓤 H} {Λ : Loops 𝓤 H} {E : Env 𝓤 H} {Γ : List (Item 𝓤)} {xs : List Opd} {d : Place} {rest : Body} {Q : Post 𝓤 H} where
         pub calls-chained-by : FmC 𝓤 H (W .laws) C → Triple 𝓤 (C #chained-by) the-chained-by → (((n ≤ length (t .now)) × (n ≤ lentLimit)) × Roomy n (x .now)) → Is usize n (vint w64 n ∷ []) → Is Que y (que y ∷ [])
             → Opds (Go {0}) W (raw (the-chained-by .pre to-chained-by) ∷ ‵ (ShrOwn u16 κ″ x) ∷ ‵ (ShrOwn Seg κ′ t) ∷ ‵ (ShrOwn u8 κ k) ∷ Γ) E xs (sliceVal (k .ptr) (length (k .now)) ∷ sliceVal (t .ptr) (length (t .now)) ∷ sliceVal (x .ptr) (length (x .now)) ∷ vint w64 n ∷ que y ∷ [])
-            → (Is Eva out-chained-by (eva out-chained-by ∷ []) → Sq W (‵ (ShrOwn u8 κ k) ∷ ‵ (flft κ q) ∷ ‵ (ShrOwn Seg κ′ t) ∷ ‵ (flft κ′ q′) ∷ ‵ (ShrOwn u16 κ″ x) ∷ ‵ (flft κ″ q″) ∷ Γ) (lands C Λ E d (eva out-chained-by) rest Q))
+            → (Is Yie out-chained-by (yie out-chained-by ∷ []) → Sq W (‵ (ShrOwn u8 κ k) ∷ ‵ (flft κ q) ∷ ‵ (ShrOwn Seg κ′ t) ∷ ‵ (flft κ′ q′) ∷ ‵ (ShrOwn u16 κ″ x) ∷ ‵ (flft κ″ q″) ∷ Γ) (lands C Λ E d (yie out-chained-by) rest Q))
             → Sq W (‵ (ShrOwn u8 κ k) ∷ ‵ (flft κ q) ∷ ‵ (ShrOwn Seg κ′ t) ∷ ‵ (flft κ′ q′) ∷ ‵ (ShrOwn u16 κ″ x) ∷ ‵ (flft κ″ q″) ∷ Γ) (runs C Λ E (seq (call #chained-by xs d) rest) Q)
         calls-chained-by fm known within is-n is-y os go =
             passes-three u8 Seg u16 κ κ′ κ″ q q′ q″ k t x (the-chained-by .pre to-chained-by) (asks-chained-by within is-n is-y)
-            (calls-told fm the-chained-by to-chained-by (known to-chained-by) Eva eva (eva-tells) (‵ (flft κ q) ⊛ ‵ (flft κ′ q′) ⊛ ‵ (flft κ″ q″) ⊛ ‵ ftrue) (λ r. ensured 𝓤 H A m-chained-by.ended (m-chained-by.clauses 𝓤 H A mem run) (κ, (κ′, (κ″, tt))) (k, (t, (x, (n, (y, tt))))) tt r) (λ u. id⊢ 𝓤 _) out-chained-by said-chained-by os (λ is. split ! $ move ! (1 ∷ []) $ split ! $ move ! (1 ∷ []) $ split ! $ move ! (1 ∷ []) $ drop ! $ move ! (5 ∷ 2 ∷ 4 ∷ 1 ∷ 3 ∷ 0 ∷ []) $ go is))
+            (calls-told fm the-chained-by to-chained-by (known to-chained-by) Yie yie (yie-tells) (‵ (flft κ q) ⊛ ‵ (flft κ′ q′) ⊛ ‵ (flft κ″ q″) ⊛ ‵ ftrue) (λ r. ensured 𝓤 H A m-chained-by.ended (m-chained-by.clauses 𝓤 H A mem run) (κ, (κ′, (κ″, tt))) (k, (t, (x, (n, (y, tt))))) tt r) (λ u. id⊢ 𝓤 _) out-chained-by said-chained-by os (λ is. split ! $ move ! (1 ∷ []) $ split ! $ move ! (1 ∷ []) $ split ! $ move ! (1 ∷ []) $ drop ! $ move ! (5 ∷ 2 ∷ 4 ∷ 1 ∷ 3 ∷ 0 ∷ []) $ go is))
 
   -- ---- backward-by
   module _ (κ κ′ κ″ : Lft) (q q′ q″ : Share) (k : RefT (List ℕ)) (t : RefT (List Segment)) (x : RefT (List ℕ)) (n : ℕ) (y : Question) where

@@ -9,8 +9,8 @@ use lib.ListN.{length, getD}
 use borrow.Author.Tests.{eq-eqb}
 use Rattle.bits.proofs.Tests.{by-test, and-first, sameZ-eq}
 use Rattle.segment.specs.declared.Segment.{Segment}
-use Rattle.segment.specs.declared.Evaluated.{Evaluated}
-use Rattle.segment.specs.declared.Evaluated.the-variants as evaluation
+use Rattle.chain.specs.declared.Yielded.{Yielded}
+use Rattle.chain.specs.declared.Yielded.the-variants as yielded
 use Rattle.table.specs.Segments.{seg}
 use Rattle.index.specs.Buckets.{bucketOf, inBucket}
 use Rattle.index.specs.Visiting.{headOf, startOf, nextUp}
@@ -123,7 +123,7 @@ module _ (ev : Evaluation) (segs : List Segment) (leg : Leg) where
 -- ---- the walk, by what a step gives
 module _ (step : Leg → Step) where
   -- what a walk of at most so many steps results in, from where it stands
-  abbrev pub onBy : ℕ → Next → Evaluated
+  abbrev pub onBy : ℕ → Next → Yielded
   onBy w a = follow (λ (on : Leg). walkBy step on w) a
 
   pub on-end : (g : Leg) → noCoverage (g .start) ≡ onBy zero (Onward g)
@@ -138,7 +138,7 @@ module _ (step : Leg → Step) where
   unfolding toZeroBy begin
   begin-by g = go (isZero g)
     where
-      go : (b : Bool) → onBy chainLimit (cond b (Ended (evaluation.State (g .total))) (Onward g)) ≡ cond b (evaluation.State (g .total)) (walkBy step g chainLimit)
+      go : (b : Bool) → onBy chainLimit (cond b (Ended (yielded.Given (g .total))) (Onward g)) ≡ cond b (yielded.Given (g .total)) (walkBy step g chainLimit)
       go true = refl
       go false = refl
 
@@ -150,12 +150,12 @@ module _ (ev : Evaluation) (segs : List Segment) (n : ℕ) where
   walk-same step same zero leg = refl
   walk-same step same (suc left) leg =
       ap (λ (x : Step). follow (λ on. walkBy step on left) (advance leg x)) (same leg)
-      ∙ ap (λ (go : Leg → Evaluated). follow go (advance leg (stepFrom ev segs n leg))) (λ i on. walk-same step same left on i)
+      ∙ ap (λ (go : Leg → Yielded). follow go (advance leg (stepFrom ev segs n leg))) (λ i on. walk-same step same left on i)
 
   -- THEOREM: through an index as it is to be, a body's state about body 0 is that over all segments
   pub to-zero-by-index : (first above : List ℕ) → IndexedUp segs n 0 first above → 0 < length first
       → (leg : Leg) → toZeroBy (stepBy ev segs n first above) leg ≡ toZero ev segs n leg
   unfolding toZeroBy toZero
   to-zero-by-index first above right pos leg =
-      ap (cond (isZero leg) (evaluation.State (leg .total)))
+      ap (cond (isZero leg) (yielded.Given (leg .total)))
       (walk-same (stepBy ev segs n first above) (λ l. step-by-index ev segs l n first above right pos) chainLimit leg)

@@ -4,12 +4,12 @@ use mathlib.Core.Bool.{cond}
 use mathlib.Core.List.{List, [], _∷_}
 use Rattle.frame.specs.Frame.{Matrix}
 use Rattle.segment.specs.declared.Segment.{Segment}
-use Rattle.segment.specs.declared.Evaluated.{Evaluated}
 use Rattle.table.specs.declared.Choice.{Choice}
 use Rattle.table.specs.declared.Choice.the-variants.{At, Nothing}
 use Rattle.table.specs.Choosing.{orElse}
 use Rattle.index.specs.Visiting.{lastBy}
 use Rattle.index.specs.Parts.{lastOf, belowOf, firstOf, aboveOf, hasRoom}
+use Rattle.chain.specs.declared.Yielded.{Yielded}
 use Rattle.chain.specs.Step.{Evaluation}
 use Rattle.spk.specs.declared.Question.{Question}
 use Rattle.spk.specs.declared.Memory.{Memory}
@@ -20,7 +20,7 @@ use Rattle.spk.specs.declared.Wanted.{Wanted}
 use Rattle.spk.specs.Questions.{hits, swapped}
 use Rattle.spk.specs.Choosing.{recall, remembered}
 use Rattle.spk.specs.Answers.{negatedOf, differenceOf}
-use Rattle.spk.specs.Asking.{Found, legFrom, evaluatedAt, answerTo, asked}
+use Rattle.spk.specs.Asking.{Found, legFrom, givenAt, answerTo, asked}
 use Rattle.spk.specs.Steps.{isEarly, earlyAnswer}
 use Rattle.spk.specs.Turning.{turnedAsked}
 use Rattle.spk.specs.Alone.{aloneAnswer}
@@ -36,14 +36,14 @@ unfoldable pub forwardFound : List Segment → ℕ → List ℕ → Memory → Q
 forwardFound segs n ix m q = orElse (recall segs n m q) (lastFound segs n ix q)
 
 -- The chain, each step up the index.
-unfoldable pub chainedBy : Evaluation → List Segment → ℕ → List ℕ → Question → Evaluated
+unfoldable pub chainedBy : Evaluation → List Segment → ℕ → List ℕ → Question → Yielded
 chainedBy ev segs n ix q =
     let step = stepBy ev segs n (firstOf ix) (aboveOf ix) in
     differenceOf (toZeroBy step (legFrom q)) (toZeroBy step (legFrom (swapped q)))
 
 -- Reversed, all six negated; else what the chain resulted in.
-abbrev pub backOr : Evaluation → List Segment → Question → Evaluated → Choice → Found
-backOr ev segs q chain (At i) = record { way = Reversed i; result = negatedOf (evaluatedAt ev segs q i) }
+abbrev pub backOr : Evaluation → List Segment → Question → Yielded → Choice → Found
+backOr ev segs q chain (At i) = record { way = Reversed i; result = negatedOf (givenAt ev segs q i) }
 backOr ev segs q chain Nothing = record { way = Chained; result = chain }
 
 -- What there is backward.
@@ -52,7 +52,7 @@ backwardBy ev segs n ix q = backOr ev segs q (chainedBy ev segs n ix q) (lastFou
 
 -- The forward choice; else what there is backward.
 abbrev pub aheadOr : Evaluation → List Segment → Question → Found → Choice → Found
-aheadOr ev segs q back (At i) = record { way = Forward i; result = evaluatedAt ev segs q i }
+aheadOr ev segs q back (At i) = record { way = Forward i; result = givenAt ev segs q i }
 aheadOr ev segs q back Nothing = back
 
 -- What a forward choice results in, and what is remembered after it.

@@ -3,10 +3,10 @@ use Prim.Native.Nat.{ℕ, zero, suc}
 use mathlib.Core.Bool.{cond}
 use mathlib.Core.List.{List, [], _∷_}
 use Rattle.segment.specs.declared.Segment.{Segment}
-use Rattle.segment.specs.declared.Evaluated.{Evaluated}
-use Rattle.segment.specs.declared.Evaluated.the-variants as evaluation
 use Rattle.table.specs.Segments.{seg}
 use Rattle.index.specs.Visiting.{headOf, nextUp, up}
+use Rattle.chain.specs.declared.Yielded.{Yielded}
+use Rattle.chain.specs.declared.Yielded.the-variants as yielded
 use Rattle.chain.specs.declared.Leg.{Leg}
 use Rattle.chain.specs.declared.Step.{Step}
 use Rattle.chain.specs.declared.Step.the-variants.{Blocked}
@@ -30,10 +30,10 @@ abbrev pub placeBy : Step → ℕ → List ℕ → ℕ → ℕ
 placeBy step n above i = cond (isEnd step) n (nextUp n above i)
 
 -- A walk of at most so many steps, by what a step from a leg gives.
-unfoldable pub walkBy : (Leg → Step) → Leg → ℕ → Evaluated
+unfoldable pub walkBy : (Leg → Step) → Leg → ℕ → Yielded
 walkBy step leg zero = noCoverage (leg .start)
 walkBy step leg (suc left) = follow (λ on. walkBy step on left) (advance leg (step leg))
 
 -- The state of a leg's body about body 0, by what a step gives.
-unfoldable pub toZeroBy : (Leg → Step) → Leg → Evaluated
-toZeroBy step leg = cond (isZero leg) (evaluation.State (leg .total)) (walkBy step leg chainLimit)
+unfoldable pub toZeroBy : (Leg → Step) → Leg → Yielded
+toZeroBy step leg = cond (isZero leg) (yielded.Given (leg .total)) (walkBy step leg chainLimit)

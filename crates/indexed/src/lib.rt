@@ -25,10 +25,10 @@ ghost use Rattle.indexed.specs.Opening.{takes, indexedBy, othersBy, inde
 use chain::Leg;
 use chain::Next;
 use chain::Step;
+use chain::Yielded;
 use daf::Family;
 use opening::Found;
 use opening::Plan;
-use segment::Evaluated;
 use segment::Segment;
 use spk::Answer;
 use spk::Asked;
@@ -130,7 +130,7 @@ fn step(kernel: &[u8], table: &[Segment], ix: &[u16], n: usize, leg: Leg) -> Ste
 }
 
 // A walk of at most `left` steps, by recursion over the current body.
-fn walk(kernel: &[u8], table: &[Segment], ix: &[u16], n: usize, at: Next, left: u32) -> Evaluated
+fn walk(kernel: &[u8], table: &[Segment], ix: &[u16], n: usize, at: Next, left: u32) -> Yielded
     requires { ⌜ ((n ≤ length (now table)) × (n ≤ lentLimit)) × Roomy n (now ix) ⌝ }
     ensures { λ r. ⌜ r ≡ follow (λ on. walkBy (stepBy (evaluated Spk (now (kernel .entry))) (now (table .entry)) n (firstOf (now (ix .entry))) (aboveOf (now (ix .entry)))) on left) at ⌝ }
 {
@@ -145,7 +145,7 @@ fn walk(kernel: &[u8], table: &[Segment], ix: &[u16], n: usize, at: Next, left: 
 }
 
 // The chain: target's state to body 0, then center's, subtracted.
-fn chained(kernel: &[u8], table: &[Segment], ix: &[u16], n: usize, q: Question) -> Evaluated
+fn chained(kernel: &[u8], table: &[Segment], ix: &[u16], n: usize, q: Question) -> Yielded
     requires { ⌜ ((n ≤ length (now table)) × (n ≤ lentLimit)) × Roomy n (now ix) ⌝ }
     ensures { λ r. ⌜ r ≡ chainedBy (evaluated Spk (now (kernel .entry))) (now (table .entry)) n (now (ix .entry)) q ⌝ }
 {

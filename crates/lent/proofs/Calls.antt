@@ -42,7 +42,7 @@ use Rattle.daf.specs.declared.Family.{Family}
 use Rattle.daf.specs.declared.Cursor.{Cursor}
 use Rattle.daf.specs.Steps.{nextCursor}
 use Rattle.segment.specs.declared.Segment.{Segment}
-use Rattle.segment.specs.declared.Evaluated.{Evaluated}
+use Rattle.chain.specs.declared.Yielded.{Yielded}
 use Rattle.segment.specs.Evaluating.{evaluated}
 use Rattle.table.specs.declared.Choice.{Choice}
 use Rattle.table.specs.Segments.{seg, emptySegment, withMark}
@@ -54,14 +54,14 @@ use Rattle.table.specs.Choosing.{lastIn, orElse}
 use Rattle.chain.specs.declared.Leg.{Leg}
 use Rattle.chain.specs.declared.Step.{Step}
 use Rattle.chain.specs.declared.Next.{Next}
-use Rattle.chain.specs.Step.{leaves, look, placeAfter, stepFrom}
+use Rattle.chain.specs.Step.{leaves, look, placeAfter, stepFrom, yieldOf}
 use Rattle.chain.specs.Walk.{advance, follow, walkFrom}
 use Rattle.spk.specs.declared.Question.{Question}
 use Rattle.spk.specs.declared.Memory.{Memory as Remembered}
 use Rattle.spk.specs.declared.Answer.{Answer}
 use Rattle.spk.specs.declared.Asked.{Asked}
 use Rattle.spk.specs.Questions.{hits, swapped}
-use Rattle.spk.specs.Steps.{hitAt, placeKept, recalledBy, aloneWith, isEarly, earlyAnswer, isFailed}
+use Rattle.spk.specs.Steps.{hitAt, placeKept, recalledBy, isEarly, earlyAnswer, isFailed}
 use Rattle.spk.specs.declared.Way.the-variants.{Forward, Reversed, Chained}
 use Rattle.spk.specs.Choosing.{recall, forwardIn, lastReversed, rememberedAt}
 use Rattle.spk.specs.Answers.{differenceOf, settled, negatedOf}
@@ -70,7 +70,7 @@ use Rattle.spk.specs.Asking.{legFrom, answerTo}
 use Rattle.frame.specs.Frame.{Matrix}
 use Rattle.spk.specs.declared.Wanted.{Wanted}
 use Rattle.spk.specs.Turning.{turnedAsked, askedIn}
-use Rattle.spk.specs.Alone.{aloneAnswer}
+use Rattle.spk.specs.Alone.{aloneWith, aloneAnswer}
 use Rattle.spk.specs.Told.{answerTold, askedTold}
 use Rattle.pck.specs.Alone as turning
 use Rattle.pck.specs.Told.{orientedTold}
@@ -85,7 +85,7 @@ use Rattle.opening.specs.Steps.{Here, hereOf, planOf, countIn, cursorIn, foundI
 use Rattle.lent.proofs.Telling.{first-said}
 use Rattle.lent.proofs.Seg.{Seg, val, tells, makes}
 use Rattle.lent.proofs.Matrices.{Mat, mat, mat-makes}
-use Rattle.lent.proofs.Rows.{mmy-tells, Cho, cho, cho-tells, cho-makes, Que, que, que-tells, que-makes, Mem, mmy, mmy-makes, Lg, leg, leg-tells, leg-makes, Stp, stp, stp-tells, stp-makes, Nex, nex, nex-tells, nex-makes, Eva, eva, eva-tells, eva-makes, Ans, ans, ans-tells, ans-makes, Ask, ask, ask-tells, ask-makes, Wan, wan, wan-makes, Bod, bod, bod-makes, Ori, ori, ori-tells, Fam, fam, fam-makes, Cur, cur, cur-tells, cur-makes, Pla, pla, pla-tells, pla-makes, Oco, oco, oco-tells}
+use Rattle.lent.proofs.Rows.{mmy-tells, Cho, cho, cho-tells, cho-makes, Que, que, que-tells, que-makes, Mem, mmy, mmy-makes, Lg, leg, leg-tells, leg-makes, Stp, stp, stp-tells, stp-makes, Nex, nex, nex-tells, nex-makes, Yie, yie, yie-tells, yie-makes, Ans, ans, ans-tells, ans-makes, Ask, ask, ask-tells, ask-makes, Wan, wan, wan-makes, Bod, bod, bod-makes, Ori, ori, ori-tells, Fam, fam, fam-makes, Cur, cur, cur-tells, cur-makes, Pla, pla, pla-tells, pla-makes, Oco, oco, oco-tells}
 use Rattle.lent.proofs.segment_at as m-segment-at
 use Rattle.lent.proofs.segment_at.Symbol.{name as #segment-at}
 use Rattle.lent.proofs.table_len as m-table-len
@@ -915,23 +915,23 @@ module _ {M : Type 1} (𝓤 : URA M) (H : Heap 𝓤) (A : Atoms 𝓤) (mem : Mem
     abbrev pub to-end-of : the-end-of .Ghost
     to-end-of = ((tt, tt, tt, (a, tt), (nex a ∷ [], tt)), tt)
 
-    abbrev pub out-end-of : Evaluated
+    abbrev pub out-end-of : Yielded
     out-end-of = endOf a
 
     module _ (W : Given 𝓤 H A) where
       asks-end-of : Is Nex a (nex a ∷ []) → ent 𝓤 (emp 𝓤) (the-end-of .pre to-end-of)
       asks-end-of is-a = qed W [] ∵ nothing ! $ owned ! Nex (Is Nex) (nex-makes 𝓤 H A W) a _ is-a $ fjoin ! $ nothing ! $ join ! $ frame ! $ done !
 
-      said-end-of : (r : Evaluated) → ent 𝓤 (ensured 𝓤 H A m-end-of.ended (m-end-of.clauses 𝓤 H A mem run) tt (a, tt) tt r) (fact 𝓤 (r ≡ out-end-of))
+      said-end-of : (r : Yielded) → ent 𝓤 (ensured 𝓤 H A m-end-of.ended (m-end-of.clauses 𝓤 H A mem run) tt (a, tt) tt r) (fact 𝓤 (r ≡ out-end-of))
       said-end-of r = exE 𝓤 _ (λ ws. snd∗ 𝓤 (sem 𝓤 H A (lasts m-end-of.ended tt (a, tt) ws)) (fact 𝓤 (r ≡ out-end-of)))
 
       module _ {C : Calls 𝓤 H} {Λ : Loops 𝓤 H} {E : Env 𝓤 H} {Γ : List (Item 𝓤)} {xs : List Opd} {d : Place} {rest : Body} {Q : Post 𝓤 H} where
         pub calls-end-of : FmC 𝓤 H (W .laws) C → Triple 𝓤 (C #end-of) the-end-of → Is Nex a (nex a ∷ [])
             → Opds (Go {0}) W (raw (the-end-of .pre to-end-of) ∷ Γ) E xs (nex a ∷ [])
-            → (Is Eva out-end-of (eva out-end-of ∷ []) → Sq W Γ (lands C Λ E d (eva out-end-of) rest Q))
+            → (Is Yie out-end-of (yie out-end-of ∷ []) → Sq W Γ (lands C Λ E d (yie out-end-of) rest Q))
             → Sq W Γ (runs C Λ E (seq (call #end-of xs d) rest) Q)
         calls-end-of fm known is-a os go =
-            use0 W (raw (the-end-of .pre to-end-of)) (asks-end-of is-a) $ calls-told fm the-end-of to-end-of (known to-end-of) Eva eva (eva-tells) (‵ ftrue) (λ r. ensured 𝓤 H A m-end-of.ended (m-end-of.clauses 𝓤 H A mem run) tt (a, tt) tt r) (λ u. id⊢ 𝓤 _) out-end-of said-end-of os (λ is. drop ! $ go is)
+            use0 W (raw (the-end-of .pre to-end-of)) (asks-end-of is-a) $ calls-told fm the-end-of to-end-of (known to-end-of) Yie yie (yie-tells) (‵ ftrue) (λ r. ensured 𝓤 H A m-end-of.ended (m-end-of.clauses 𝓤 H A mem run) tt (a, tt) tt r) (λ u. id⊢ 𝓤 _) out-end-of said-end-of os (λ is. drop ! $ go is)
 
   -- ---- leg-of
   module _ (a : Next) where
@@ -984,28 +984,28 @@ module _ {M : Type 1} (𝓤 : URA M) (H : Heap 𝓤) (A : Atoms 𝓤) (mem : Mem
     abbrev pub to-walk : the-walk .Ghost
     to-walk = (((κ, (κ′, tt)), (q, (q′, tt)), tt, (k, (t, (n, (a, (w, tt))))), (sliceVal (k .ptr) (length (k .now)) ∷ [], (sliceVal (t .ptr) (length (t .now)) ∷ [], (vint w64 n ∷ [], (nex a ∷ [], (vint w32 w ∷ [], tt)))))), tt)
 
-    abbrev pub out-walk : Evaluated
+    abbrev pub out-walk : Yielded
     out-walk = follow (λ (on : Leg). walkFrom (evaluated Spk (k .now)) (t .now) n on w) a
 
     module _ (W : Given 𝓤 H A) where
       asks-walk : ((n ≤ length (t .now)) × (n ≤ lentLimit)) → Is usize n (vint w64 n ∷ []) → Is Nex a (nex a ∷ []) → Is u32 w (vint w32 w ∷ []) → ent 𝓤 (⋆ 𝓤 H A ((‵ (flft κ q) ⊛ ‵ (flft κ′ q′) ⊛ ‵ ftrue) ∷ ‵ (ShrOwn u8 κ k) ∷ ‵ (ShrOwn Seg κ′ t) ∷ [])) (the-walk .pre to-walk)
       asks-walk within is-n is-a is-w = qed W ((‵ (flft κ q) ⊛ ‵ (flft κ′ q′) ⊛ ‵ ftrue) ∷ ‵ (ShrOwn u8 κ k) ∷ ‵ (ShrOwn Seg κ′ t) ∷ []) ∵ says ! within $ frame ! $ nothing ! $ owned ! u32 (Is u32) (uint-makes 𝓤 H A W w32) w _ is-w $ fjoin ! $ owned ! Nex (Is Nex) (nex-makes 𝓤 H A W) a _ is-a $ fjoin ! $ owned ! usize (Is usize) (uint-makes 𝓤 H A W w64) n _ is-n $ fjoin ! $ move ! (2 ∷ 0 ∷ []) $ fjoin ! $ move ! (1 ∷ 0 ∷ []) $ fjoin ! $ done !
 
-      said-walk : (r : Evaluated) → ent 𝓤 (ensured 𝓤 H A m-walk.ended (m-walk.clauses 𝓤 H A mem run) (κ, (κ′, tt)) (k, (t, (n, (a, (w, tt))))) tt r) (fact 𝓤 (r ≡ out-walk))
+      said-walk : (r : Yielded) → ent 𝓤 (ensured 𝓤 H A m-walk.ended (m-walk.clauses 𝓤 H A mem run) (κ, (κ′, tt)) (k, (t, (n, (a, (w, tt))))) tt r) (fact 𝓤 (r ≡ out-walk))
       said-walk r = exE 𝓤 _ (λ ws. snd∗ 𝓤 (sem 𝓤 H A (lasts m-walk.ended (κ, (κ′, tt)) (k, (t, (n, (a, (w, tt))))) ws)) (fact 𝓤 (r ≡ out-walk)))
 
       module _ {C : Calls 𝓤 H} {Λ : Loops 𝓤 H} {E : Env 𝓤 H} {Γ : List (Item 𝓤)} {xs : List Opd} {d : Place} {rest : Body} {Q : Post 𝓤 H} where
         pub recurs-walk : FmC 𝓤 H (W .laws) C → ent 𝓤 (the-walk .pre to-walk) (C #walk (the-walk .args to-walk) (the-walk .post to-walk)) → ((n ≤ length (t .now)) × (n ≤ lentLimit)) → Is usize n (vint w64 n ∷ []) → Is Nex a (nex a ∷ []) → Is u32 w (vint w32 w ∷ [])
             → Opds (Go {0}) W (raw (the-walk .pre to-walk) ∷ ‵ (ShrOwn Seg κ′ t) ∷ ‵ (ShrOwn u8 κ k) ∷ Γ) E xs (sliceVal (k .ptr) (length (k .now)) ∷ sliceVal (t .ptr) (length (t .now)) ∷ vint w64 n ∷ nex a ∷ vint w32 w ∷ [])
-            → (Is Eva out-walk (eva out-walk ∷ []) → Sq W (‵ (ShrOwn u8 κ k) ∷ ‵ (flft κ q) ∷ ‵ (ShrOwn Seg κ′ t) ∷ ‵ (flft κ′ q′) ∷ Γ) (lands C Λ E d (eva out-walk) rest Q))
+            → (Is Yie out-walk (yie out-walk ∷ []) → Sq W (‵ (ShrOwn u8 κ k) ∷ ‵ (flft κ q) ∷ ‵ (ShrOwn Seg κ′ t) ∷ ‵ (flft κ′ q′) ∷ Γ) (lands C Λ E d (yie out-walk) rest Q))
             → Sq W (‵ (ShrOwn u8 κ k) ∷ ‵ (flft κ q) ∷ ‵ (ShrOwn Seg κ′ t) ∷ ‵ (flft κ′ q′) ∷ Γ) (runs C Λ E (seq (call #walk xs d) rest) Q)
         recurs-walk fm known within is-n is-a is-w os go =
             passes-both u8 Seg κ κ′ q q′ k t (the-walk .pre to-walk) (asks-walk within is-n is-a is-w)
-            (calls-told fm the-walk to-walk known Eva eva (eva-tells) (‵ (flft κ q) ⊛ ‵ (flft κ′ q′) ⊛ ‵ ftrue) (λ r. ensured 𝓤 H A m-walk.ended (m-walk.clauses 𝓤 H A mem run) (κ, (κ′, tt)) (k, (t, (n, (a, (w, tt))))) tt r) (λ u. id⊢ 𝓤 _) out-walk said-walk os (λ is. split ! $ move ! (1 ∷ []) $ split ! $ move ! (1 ∷ []) $ drop ! $ move ! (3 ∷ 1 ∷ 2 ∷ 0 ∷ []) $ go is))
+            (calls-told fm the-walk to-walk known Yie yie (yie-tells) (‵ (flft κ q) ⊛ ‵ (flft κ′ q′) ⊛ ‵ ftrue) (λ r. ensured 𝓤 H A m-walk.ended (m-walk.clauses 𝓤 H A mem run) (κ, (κ′, tt)) (k, (t, (n, (a, (w, tt))))) tt r) (λ u. id⊢ 𝓤 _) out-walk said-walk os (λ is. split ! $ move ! (1 ∷ []) $ split ! $ move ! (1 ∷ []) $ drop ! $ move ! (3 ∷ 1 ∷ 2 ∷ 0 ∷ []) $ go is))
 
         pub calls-walk : FmC 𝓤 H (W .laws) C → Triple 𝓤 (C #walk) the-walk → ((n ≤ length (t .now)) × (n ≤ lentLimit)) → Is usize n (vint w64 n ∷ []) → Is Nex a (nex a ∷ []) → Is u32 w (vint w32 w ∷ [])
             → Opds (Go {0}) W (raw (the-walk .pre to-walk) ∷ ‵ (ShrOwn Seg κ′ t) ∷ ‵ (ShrOwn u8 κ k) ∷ Γ) E xs (sliceVal (k .ptr) (length (k .now)) ∷ sliceVal (t .ptr) (length (t .now)) ∷ vint w64 n ∷ nex a ∷ vint w32 w ∷ [])
-            → (Is Eva out-walk (eva out-walk ∷ []) → Sq W (‵ (ShrOwn u8 κ k) ∷ ‵ (flft κ q) ∷ ‵ (ShrOwn Seg κ′ t) ∷ ‵ (flft κ′ q′) ∷ Γ) (lands C Λ E d (eva out-walk) rest Q))
+            → (Is Yie out-walk (yie out-walk ∷ []) → Sq W (‵ (ShrOwn u8 κ k) ∷ ‵ (flft κ q) ∷ ‵ (ShrOwn Seg κ′ t) ∷ ‵ (flft κ′ q′) ∷ Γ) (lands C Λ E d (yie out-walk) rest Q))
             → Sq W (‵ (ShrOwn u8 κ k) ∷ ‵ (flft κ q) ∷ ‵ (ShrOwn Seg κ′ t) ∷ ‵ (flft κ′ q′) ∷ Γ) (runs C Λ E (seq (call #walk xs d) rest) Q)
         calls-walk fm known = recurs-walk fm (known to-walk)
 
@@ -1056,46 +1056,46 @@ module _ {M : Type 1} (𝓤 : URA M) (H : Heap 𝓤) (A : Atoms 𝓤) (mem : Mem
             use0 W (raw (the-swapped .pre to-swapped)) (asks-swapped is-x) $ calls-told fm the-swapped to-swapped (known to-swapped) Que que (que-tells) (‵ ftrue) (λ r. ensured 𝓤 H A m-swapped.ended (m-swapped.clauses 𝓤 H A mem run) tt (x, tt) tt r) (λ u. id⊢ 𝓤 _) out-swapped said-swapped os (λ is. drop ! $ go is)
 
   -- ---- difference
-  module _ (a : Evaluated) (b : Evaluated) where
+  module _ (a : Yielded) (b : Yielded) where
     abbrev pub to-difference : the-difference .Ghost
-    to-difference = ((tt, tt, tt, (a, (b, tt)), (eva a ∷ [], (eva b ∷ [], tt))), tt)
+    to-difference = ((tt, tt, tt, (a, (b, tt)), (yie a ∷ [], (yie b ∷ [], tt))), tt)
 
-    abbrev pub out-difference : Evaluated
+    abbrev pub out-difference : Yielded
     out-difference = differenceOf a b
 
     module _ (W : Given 𝓤 H A) where
-      asks-difference : Is Eva a (eva a ∷ []) → Is Eva b (eva b ∷ []) → ent 𝓤 (emp 𝓤) (the-difference .pre to-difference)
-      asks-difference is-a is-b = qed W [] ∵ nothing ! $ owned ! Eva (Is Eva) (eva-makes 𝓤 H A W) b _ is-b $ fjoin ! $ owned ! Eva (Is Eva) (eva-makes 𝓤 H A W) a _ is-a $ fjoin ! $ nothing ! $ join ! $ frame ! $ done !
+      asks-difference : Is Yie a (yie a ∷ []) → Is Yie b (yie b ∷ []) → ent 𝓤 (emp 𝓤) (the-difference .pre to-difference)
+      asks-difference is-a is-b = qed W [] ∵ nothing ! $ owned ! Yie (Is Yie) (yie-makes 𝓤 H A W) b _ is-b $ fjoin ! $ owned ! Yie (Is Yie) (yie-makes 𝓤 H A W) a _ is-a $ fjoin ! $ nothing ! $ join ! $ frame ! $ done !
 
-      said-difference : (r : Evaluated) → ent 𝓤 (ensured 𝓤 H A m-difference.ended (m-difference.clauses 𝓤 H A mem run) tt (a, (b, tt)) tt r) (fact 𝓤 (r ≡ out-difference))
+      said-difference : (r : Yielded) → ent 𝓤 (ensured 𝓤 H A m-difference.ended (m-difference.clauses 𝓤 H A mem run) tt (a, (b, tt)) tt r) (fact 𝓤 (r ≡ out-difference))
       said-difference r = exE 𝓤 _ (λ ws. snd∗ 𝓤 (sem 𝓤 H A (lasts m-difference.ended tt (a, (b, tt)) ws)) (fact 𝓤 (r ≡ out-difference)))
 
       module _ {C : Calls 𝓤 H} {Λ : Loops 𝓤 H} {E : Env 𝓤 H} {Γ : List (Item 𝓤)} {xs : List Opd} {d : Place} {rest : Body} {Q : Post 𝓤 H} where
-        pub calls-difference : FmC 𝓤 H (W .laws) C → Triple 𝓤 (C #difference) the-difference → Is Eva a (eva a ∷ []) → Is Eva b (eva b ∷ [])
-            → Opds (Go {0}) W (raw (the-difference .pre to-difference) ∷ Γ) E xs (eva a ∷ eva b ∷ [])
-            → (Is Eva out-difference (eva out-difference ∷ []) → Sq W Γ (lands C Λ E d (eva out-difference) rest Q))
+        pub calls-difference : FmC 𝓤 H (W .laws) C → Triple 𝓤 (C #difference) the-difference → Is Yie a (yie a ∷ []) → Is Yie b (yie b ∷ [])
+            → Opds (Go {0}) W (raw (the-difference .pre to-difference) ∷ Γ) E xs (yie a ∷ yie b ∷ [])
+            → (Is Yie out-difference (yie out-difference ∷ []) → Sq W Γ (lands C Λ E d (yie out-difference) rest Q))
             → Sq W Γ (runs C Λ E (seq (call #difference xs d) rest) Q)
         calls-difference fm known is-a is-b os go =
-            use0 W (raw (the-difference .pre to-difference)) (asks-difference is-a is-b) $ calls-told fm the-difference to-difference (known to-difference) Eva eva (eva-tells) (‵ ftrue) (λ r. ensured 𝓤 H A m-difference.ended (m-difference.clauses 𝓤 H A mem run) tt (a, (b, tt)) tt r) (λ u. id⊢ 𝓤 _) out-difference said-difference os (λ is. drop ! $ go is)
+            use0 W (raw (the-difference .pre to-difference)) (asks-difference is-a is-b) $ calls-told fm the-difference to-difference (known to-difference) Yie yie (yie-tells) (‵ ftrue) (λ r. ensured 𝓤 H A m-difference.ended (m-difference.clauses 𝓤 H A mem run) tt (a, (b, tt)) tt r) (λ u. id⊢ 𝓤 _) out-difference said-difference os (λ is. drop ! $ go is)
 
   -- ---- is-failed
-  module _ (e : Evaluated) where
+  module _ (e : Yielded) where
     abbrev pub to-is-failed : the-is-failed .Ghost
-    to-is-failed = ((tt, tt, tt, (e, tt), (eva e ∷ [], tt)), tt)
+    to-is-failed = ((tt, tt, tt, (e, tt), (yie e ∷ [], tt)), tt)
 
     abbrev pub out-is-failed : Bool
     out-is-failed = isFailed e
 
     module _ (W : Given 𝓤 H A) where
-      asks-is-failed : Is Eva e (eva e ∷ []) → ent 𝓤 (emp 𝓤) (the-is-failed .pre to-is-failed)
-      asks-is-failed is-e = qed W [] ∵ nothing ! $ owned ! Eva (Is Eva) (eva-makes 𝓤 H A W) e _ is-e $ fjoin ! $ nothing ! $ join ! $ frame ! $ done !
+      asks-is-failed : Is Yie e (yie e ∷ []) → ent 𝓤 (emp 𝓤) (the-is-failed .pre to-is-failed)
+      asks-is-failed is-e = qed W [] ∵ nothing ! $ owned ! Yie (Is Yie) (yie-makes 𝓤 H A W) e _ is-e $ fjoin ! $ nothing ! $ join ! $ frame ! $ done !
 
       said-is-failed : (r : Bool) → ent 𝓤 (ensured 𝓤 H A m-is-failed.ended (m-is-failed.clauses 𝓤 H A mem run) tt (e, tt) tt r) (fact 𝓤 (r ≡ out-is-failed))
       said-is-failed r = exE 𝓤 _ (λ ws. snd∗ 𝓤 (sem 𝓤 H A (lasts m-is-failed.ended tt (e, tt) ws)) (fact 𝓤 (r ≡ out-is-failed)))
 
       module _ {C : Calls 𝓤 H} {Λ : Loops 𝓤 H} {E : Env 𝓤 H} {Γ : List (Item 𝓤)} {xs : List Opd} {d : Place} {rest : Body} {Q : Post 𝓤 H} where
-        pub calls-is-failed : FmC 𝓤 H (W .laws) C → Triple 𝓤 (C #is-failed) the-is-failed → Is Eva e (eva e ∷ [])
-            → Opds (Go {0}) W (raw (the-is-failed .pre to-is-failed) ∷ Γ) E xs (eva e ∷ [])
+        pub calls-is-failed : FmC 𝓤 H (W .laws) C → Triple 𝓤 (C #is-failed) the-is-failed → Is Yie e (yie e ∷ [])
+            → Opds (Go {0}) W (raw (the-is-failed .pre to-is-failed) ∷ Γ) E xs (yie e ∷ [])
             → (Is bool out-is-failed (vbool out-is-failed ∷ []) → Sq W Γ (lands C Λ E d (vbool out-is-failed) rest Q))
             → Sq W Γ (runs C Λ E (seq (call #is-failed xs d) rest) Q)
         calls-is-failed fm known is-e os go =
@@ -1106,24 +1106,24 @@ module _ {M : Type 1} (𝓤 : URA M) (H : Heap 𝓤) (A : Atoms 𝓤) (mem : Mem
     abbrev pub to-chained : the-chained .Ghost
     to-chained = (((κ, (κ′, tt)), (q, (q′, tt)), tt, (k, (t, (n, (x, tt)))), (sliceVal (k .ptr) (length (k .now)) ∷ [], (sliceVal (t .ptr) (length (t .now)) ∷ [], (vint w64 n ∷ [], (que x ∷ [], tt))))), tt)
 
-    abbrev pub out-chained : Evaluated
+    abbrev pub out-chained : Yielded
     out-chained = asking.chained (evaluated Spk (k .now)) (t .now) n x
 
     module _ (W : Given 𝓤 H A) where
       asks-chained : ((n ≤ length (t .now)) × (n ≤ lentLimit)) → Is usize n (vint w64 n ∷ []) → Is Que x (que x ∷ []) → ent 𝓤 (⋆ 𝓤 H A ((‵ (flft κ q) ⊛ ‵ (flft κ′ q′) ⊛ ‵ ftrue) ∷ ‵ (ShrOwn u8 κ k) ∷ ‵ (ShrOwn Seg κ′ t) ∷ [])) (the-chained .pre to-chained)
       asks-chained within is-n is-x = qed W ((‵ (flft κ q) ⊛ ‵ (flft κ′ q′) ⊛ ‵ ftrue) ∷ ‵ (ShrOwn u8 κ k) ∷ ‵ (ShrOwn Seg κ′ t) ∷ []) ∵ says ! within $ frame ! $ nothing ! $ owned ! Que (Is Que) (que-makes 𝓤 H A W) x _ is-x $ fjoin ! $ owned ! usize (Is usize) (uint-makes 𝓤 H A W w64) n _ is-n $ fjoin ! $ move ! (2 ∷ 0 ∷ []) $ fjoin ! $ move ! (1 ∷ 0 ∷ []) $ fjoin ! $ done !
 
-      said-chained : (r : Evaluated) → ent 𝓤 (ensured 𝓤 H A m-chained.ended (m-chained.clauses 𝓤 H A mem run) (κ, (κ′, tt)) (k, (t, (n, (x, tt)))) tt r) (fact 𝓤 (r ≡ out-chained))
+      said-chained : (r : Yielded) → ent 𝓤 (ensured 𝓤 H A m-chained.ended (m-chained.clauses 𝓤 H A mem run) (κ, (κ′, tt)) (k, (t, (n, (x, tt)))) tt r) (fact 𝓤 (r ≡ out-chained))
       said-chained r = exE 𝓤 _ (λ ws. snd∗ 𝓤 (sem 𝓤 H A (lasts m-chained.ended (κ, (κ′, tt)) (k, (t, (n, (x, tt)))) ws)) (fact 𝓤 (r ≡ out-chained)))
 
       module _ {C : Calls 𝓤 H} {Λ : Loops 𝓤 H} {E : Env 𝓤 H} {Γ : List (Item 𝓤)} {xs : List Opd} {d : Place} {rest : Body} {Q : Post 𝓤 H} where
         pub calls-chained : FmC 𝓤 H (W .laws) C → Triple 𝓤 (C #chained) the-chained → ((n ≤ length (t .now)) × (n ≤ lentLimit)) → Is usize n (vint w64 n ∷ []) → Is Que x (que x ∷ [])
             → Opds (Go {0}) W (raw (the-chained .pre to-chained) ∷ ‵ (ShrOwn Seg κ′ t) ∷ ‵ (ShrOwn u8 κ k) ∷ Γ) E xs (sliceVal (k .ptr) (length (k .now)) ∷ sliceVal (t .ptr) (length (t .now)) ∷ vint w64 n ∷ que x ∷ [])
-            → (Is Eva out-chained (eva out-chained ∷ []) → Sq W (‵ (ShrOwn u8 κ k) ∷ ‵ (flft κ q) ∷ ‵ (ShrOwn Seg κ′ t) ∷ ‵ (flft κ′ q′) ∷ Γ) (lands C Λ E d (eva out-chained) rest Q))
+            → (Is Yie out-chained (yie out-chained ∷ []) → Sq W (‵ (ShrOwn u8 κ k) ∷ ‵ (flft κ q) ∷ ‵ (ShrOwn Seg κ′ t) ∷ ‵ (flft κ′ q′) ∷ Γ) (lands C Λ E d (yie out-chained) rest Q))
             → Sq W (‵ (ShrOwn u8 κ k) ∷ ‵ (flft κ q) ∷ ‵ (ShrOwn Seg κ′ t) ∷ ‵ (flft κ′ q′) ∷ Γ) (runs C Λ E (seq (call #chained xs d) rest) Q)
         calls-chained fm known within is-n is-x os go =
             passes-both u8 Seg κ κ′ q q′ k t (the-chained .pre to-chained) (asks-chained within is-n is-x)
-            (calls-told fm the-chained to-chained (known to-chained) Eva eva (eva-tells) (‵ (flft κ q) ⊛ ‵ (flft κ′ q′) ⊛ ‵ ftrue) (λ r. ensured 𝓤 H A m-chained.ended (m-chained.clauses 𝓤 H A mem run) (κ, (κ′, tt)) (k, (t, (n, (x, tt)))) tt r) (λ u. id⊢ 𝓤 _) out-chained said-chained os (λ is. split ! $ move ! (1 ∷ []) $ split ! $ move ! (1 ∷ []) $ drop ! $ move ! (3 ∷ 1 ∷ 2 ∷ 0 ∷ []) $ go is))
+            (calls-told fm the-chained to-chained (known to-chained) Yie yie (yie-tells) (‵ (flft κ q) ⊛ ‵ (flft κ′ q′) ⊛ ‵ ftrue) (λ r. ensured 𝓤 H A m-chained.ended (m-chained.clauses 𝓤 H A mem run) (κ, (κ′, tt)) (k, (t, (n, (x, tt)))) tt r) (λ u. id⊢ 𝓤 _) out-chained said-chained os (λ is. split ! $ move ! (1 ∷ []) $ split ! $ move ! (1 ∷ []) $ drop ! $ move ! (3 ∷ 1 ∷ 2 ∷ 0 ∷ []) $ go is))
 
   -- ---- reversed
   module _ (κ : Lft) (q : Share) (k : RefT (List ℕ)) (i : ℕ) (s : Segment) (x : Question) where
@@ -1131,7 +1131,7 @@ module _ {M : Type 1} (𝓤 : URA M) (H : Heap 𝓤) (A : Atoms 𝓤) (mem : Mem
     to-reversed = (((κ, tt), (q, tt), tt, (k, (i, (s, (x, tt)))), (sliceVal (k .ptr) (length (k .now)) ∷ [], (vint w64 i ∷ [], (val s ∷ [], (que x ∷ [], tt))))), tt)
 
     abbrev pub out-reversed : Answer
-    out-reversed = settled (Reversed i) (negatedOf (evaluated Spk (k .now) s i (x .et)))
+    out-reversed = settled (Reversed i) (negatedOf (yieldOf s (evaluated Spk (k .now) s i (x .et))))
 
     module _ (W : Given 𝓤 H A) where
       asks-reversed : i < lentLimit → Is usize i (vint w64 i ∷ []) → Is Seg s (val s ∷ []) → Is Que x (que x ∷ []) → ent 𝓤 (sep 𝓤 (A .lft κ q) (sem 𝓤 H A (ShrOwn u8 κ k))) (the-reversed .pre to-reversed)
@@ -1150,23 +1150,23 @@ module _ {M : Type 1} (𝓤 : URA M) (H : Heap 𝓤) (A : Atoms 𝓤) (mem : Mem
             (calls-told fm the-reversed to-reversed (known to-reversed) Ans ans (ans-tells) (‵ (flft κ q) ⊛ ‵ ftrue) (λ r. ensured 𝓤 H A m-reversed.ended (m-reversed.clauses 𝓤 H A mem run) (κ, tt) (k, (i, (s, (x, tt)))) tt r) (λ u. id⊢ 𝓤 _) out-reversed said-reversed os (λ is. split ! $ move ! (1 ∷ []) $ drop ! $ move ! (1 ∷ 0 ∷ []) $ go is))
 
   -- ---- by-chain
-  module _ (e : Evaluated) where
+  module _ (e : Yielded) where
     abbrev pub to-by-chain : the-by-chain .Ghost
-    to-by-chain = ((tt, tt, tt, (e, tt), (eva e ∷ [], tt)), tt)
+    to-by-chain = ((tt, tt, tt, (e, tt), (yie e ∷ [], tt)), tt)
 
     abbrev pub out-by-chain : Answer
     out-by-chain = settled Chained e
 
     module _ (W : Given 𝓤 H A) where
-      asks-by-chain : Is Eva e (eva e ∷ []) → ent 𝓤 (emp 𝓤) (the-by-chain .pre to-by-chain)
-      asks-by-chain is-e = qed W [] ∵ nothing ! $ owned ! Eva (Is Eva) (eva-makes 𝓤 H A W) e _ is-e $ fjoin ! $ nothing ! $ join ! $ frame ! $ done !
+      asks-by-chain : Is Yie e (yie e ∷ []) → ent 𝓤 (emp 𝓤) (the-by-chain .pre to-by-chain)
+      asks-by-chain is-e = qed W [] ∵ nothing ! $ owned ! Yie (Is Yie) (yie-makes 𝓤 H A W) e _ is-e $ fjoin ! $ nothing ! $ join ! $ frame ! $ done !
 
       said-by-chain : (r : Answer) → ent 𝓤 (ensured 𝓤 H A m-by-chain.ended (m-by-chain.clauses 𝓤 H A mem run) tt (e, tt) tt r) (fact 𝓤 (r ≡ out-by-chain))
       said-by-chain r = exE 𝓤 _ (λ ws. snd∗ 𝓤 (sem 𝓤 H A (lasts m-by-chain.ended tt (e, tt) ws)) (fact 𝓤 (r ≡ out-by-chain)))
 
       module _ {C : Calls 𝓤 H} {Λ : Loops 𝓤 H} {E : Env 𝓤 H} {Γ : List (Item 𝓤)} {xs : List Opd} {d : Place} {rest : Body} {Q : Post 𝓤 H} where
-        pub calls-by-chain : FmC 𝓤 H (W .laws) C → Triple 𝓤 (C #by-chain) the-by-chain → Is Eva e (eva e ∷ [])
-            → Opds (Go {0}) W (raw (the-by-chain .pre to-by-chain) ∷ Γ) E xs (eva e ∷ [])
+        pub calls-by-chain : FmC 𝓤 H (W .laws) C → Triple 𝓤 (C #by-chain) the-by-chain → Is Yie e (yie e ∷ [])
+            → Opds (Go {0}) W (raw (the-by-chain .pre to-by-chain) ∷ Γ) E xs (yie e ∷ [])
             → (Is Ans out-by-chain (ans out-by-chain ∷ []) → Sq W Γ (lands C Λ E d (ans out-by-chain) rest Q))
             → Sq W Γ (runs C Λ E (seq (call #by-chain xs d) rest) Q)
         calls-by-chain fm known is-e os go =
@@ -1953,7 +1953,7 @@ module _ {M : Type 1} (𝓤 : URA M) (H : Heap 𝓤) (A : Atoms 𝓤) (mem : Mem
     to-forward = (((κ, tt), (q, tt), tt, (k, (m, (i, (s, (x, tt))))), (sliceVal (k .ptr) (length (k .now)) ∷ [], (mmy m ∷ [], (vint w64 i ∷ [], (val s ∷ [], (que x ∷ [], tt)))))), tt)
 
     abbrev pub out-forward : Asked
-    out-forward = record { answer = settled (Forward i) (evaluated Spk (k .now) s i (x .et)); memory = m }
+    out-forward = record { answer = settled (Forward i) (yieldOf s (evaluated Spk (k .now) s i (x .et))); memory = m }
 
     module _ (W : Given 𝓤 H A) where
       asks-forward : i < lentLimit → Is Mem m (mmy m ∷ []) → Is usize i (vint w64 i ∷ []) → Is Seg s (val s ∷ []) → Is Que x (que x ∷ []) → ent 𝓤 (sep 𝓤 (A .lft κ q) (sem 𝓤 H A (ShrOwn u8 κ k))) (the-forward .pre to-forward)

@@ -18,7 +18,7 @@ use Rattle.spk.specs.declared.Memory.{Memory as Remembered}
 use Rattle.chain.specs.declared.Leg.{Leg}
 use Rattle.chain.specs.declared.Step.{Step}
 use Rattle.chain.specs.declared.Next.{Next}
-use Rattle.segment.specs.declared.Evaluated.{Evaluated}
+use Rattle.chain.specs.declared.Yielded.{Yielded}
 use Rattle.spk.specs.declared.Answer.{Answer}
 use Rattle.spk.specs.declared.Asked.{Asked}
 use Rattle.daf.specs.declared.Family.{Family}
@@ -43,8 +43,8 @@ use Rattle.chain.proofs.Step as Stp·
 use Rattle.chain.proofs.Step.Laws as Stp′
 use Rattle.chain.proofs.Next as Nex·
 use Rattle.chain.proofs.Next.Laws as Nex′
-use Rattle.segment.proofs.Evaluated as Eva·
-use Rattle.segment.proofs.Evaluated.Laws as Eva′
+use Rattle.chain.proofs.Yielded as Yie·
+use Rattle.chain.proofs.Yielded.Laws as Yie′
 use Rattle.spk.proofs.Answer as Ans·
 use Rattle.spk.proofs.Answer.Laws as Ans′
 use Rattle.spk.proofs.Asked as Ask·
@@ -136,17 +136,17 @@ Nex-ty = Nex′.mir
 pub nex-tells : Tells Nex (Is Nex) (λ c. nex c ∷ [])
 nex-tells = EL.tells Nex·.the-type Nex′.the-laws
 
-abbrev pub Eva : RattleType
-Eva = Eva·.the-row
+abbrev pub Yie : RattleType
+Yie = Yie·.the-row
 
-abbrev pub eva : Evaluated → Val
-eva = EL.val Eva·.the-type Eva′.the-laws
+abbrev pub yie : Yielded → Val
+yie = EL.val Yie·.the-type Yie′.the-laws
 
-abbrev pub Eva-ty : Ty
-Eva-ty = Eva′.mir
+abbrev pub Yie-ty : Ty
+Yie-ty = Yie′.mir
 
-pub eva-tells : Tells Eva (Is Eva) (λ c. eva c ∷ [])
-eva-tells = EL.tells Eva·.the-type Eva′.the-laws
+pub yie-tells : Tells Yie (Is Yie) (λ c. yie c ∷ [])
+yie-tells = EL.tells Yie·.the-type Yie′.the-laws
 
 abbrev pub Ans : RattleType
 Ans = Ans·.the-row
@@ -303,11 +303,11 @@ module _ {M : Type 1} (𝓤 : URA M) (H : Heap 𝓤) (A : Atoms 𝓤) (W : Given
   pub nex-makes : Makes 𝓤 H A Nex (Is Nex)
   nex-makes = EL.makes Nex·.the-type Nex′.the-plain 𝓤 H A
 
-  pub eva-lawful : Lawful 𝓤 H A Eva
-  eva-lawful = EL.lawful Eva·.the-type Eva′.the-laws 𝓤 H A W tt
+  pub yie-lawful : Lawful 𝓤 H A Yie
+  yie-lawful = EL.lawful Yie·.the-type Yie′.the-laws 𝓤 H A W tt
 
-  pub eva-makes : Makes 𝓤 H A Eva (Is Eva)
-  eva-makes = EL.makes Eva·.the-type Eva′.the-plain 𝓤 H A
+  pub yie-makes : Makes 𝓤 H A Yie (Is Yie)
+  yie-makes = EL.makes Yie·.the-type Yie′.the-plain 𝓤 H A
 
   pub ans-lawful : Lawful 𝓤 H A Ans
   ans-lawful = LL.lawful Ans·.the-type Ans′.the-laws 𝓤 H A W

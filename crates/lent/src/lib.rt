@@ -28,11 +28,11 @@ ghost use Rattle.pck.specs.Told.{orientedTold};
 use chain::Leg;
 use chain::Next;
 use chain::Step;
+use chain::Yielded;
 use daf::Cursor;
 use daf::Family;
 use opening::Found;
 use opening::Plan;
-use segment::Evaluated;
 use segment::Segment;
 use spk::Answer;
 use spk::Asked;
@@ -134,7 +134,7 @@ fn step(kernel: &[u8], table: &[Segment], n: usize, leg: Leg) -> Step
 }
 
 // A walk of at most `left` steps, by recursion over the current body.
-fn walk(kernel: &[u8], table: &[Segment], n: usize, at: Next, left: u32) -> Evaluated
+fn walk(kernel: &[u8], table: &[Segment], n: usize, at: Next, left: u32) -> Yielded
     requires { ⌜ (n ≤ length (now table)) × (n ≤ lentLimit) ⌝ }
     ensures { λ r. ⌜ r ≡ follow (λ on. walkFrom (evaluated Spk (now (kernel .entry))) (now (table .entry)) n on left) at ⌝ }
 {
@@ -149,7 +149,7 @@ fn walk(kernel: &[u8], table: &[Segment], n: usize, at: Next, left: u32) -> Eval
 }
 
 // The chain: target's state to body 0, then center's, subtracted. A refusal on the target's walk is the chain's.
-fn chained(kernel: &[u8], table: &[Segment], n: usize, q: Question) -> Evaluated
+fn chained(kernel: &[u8], table: &[Segment], n: usize, q: Question) -> Yielded
     requires { ⌜ (n ≤ length (now table)) × (n ≤ lentLimit) ⌝ }
     ensures { λ r. ⌜ r ≡ chained (evaluated Spk (now (kernel .entry))) (now (table .entry)) n q ⌝ }
 {

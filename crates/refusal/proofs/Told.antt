@@ -6,7 +6,7 @@ use mathlib.Core.List.{List, [], _∷_}
 use lib.Dec.{eqb}
 use lib.IntN.{ℤ, natAbs}
 use Rattle.refusal.specs.declared.Refusal.{Refusal}
-use Rattle.refusal.specs.declared.Refusal.the-variants.{KernelLength, NotDaf, NotLittleEndian, OtherSummaries, RecordPastEnd, RecordTwice, CountOver25, TooManySummaries, Malformed, EpochNan, NoCoverage, Unsupported, ZeroRadius, TableUnfit, NotFinite, EmptyWindow, NoSegment, InputTooLong, BadRecord, TooManySuppliers}
+use Rattle.refusal.specs.declared.Refusal.the-variants.{KernelLength, NotDaf, NotLittleEndian, OtherSummaries, RecordPastEnd, RecordTwice, CountOver25, TooManySummaries, Malformed, EpochNan, NoCoverage, Unsupported, ZeroRadius, TableUnfit, NotFinite, EmptyWindow, NoSegment, InputTooLong, BadRecord, TooManySuppliers, OtherFrame}
 use Rattle.refusal.specs.Numbers.{numberOf}
 use Rattle.refusal.specs.Told.{Numbered, refusedBy}
 
@@ -21,7 +21,7 @@ told-back told back same x y e = sym (same x) ∙ ap back e ∙ same y
 abbrev refusals : ℤ → List Refusal
 refusals d =
     KernelLength ∷ NotDaf ∷ NotLittleEndian ∷ OtherSummaries ∷ RecordPastEnd ∷ RecordTwice ∷ CountOver25 ∷ TooManySummaries ∷ Malformed (natAbs d) ∷ EpochNan
-    ∷ NoCoverage d ∷ Unsupported d ∷ ZeroRadius (natAbs d) ∷ TableUnfit ∷ NotFinite ∷ EmptyWindow (natAbs d) ∷ NoSegment ∷ InputTooLong ∷ BadRecord ∷ TooManySuppliers ∷ []
+    ∷ NoCoverage d ∷ Unsupported d ∷ ZeroRadius (natAbs d) ∷ TableUnfit ∷ NotFinite ∷ EmptyWindow (natAbs d) ∷ NoSegment ∷ InputTooLong ∷ BadRecord ∷ TooManySuppliers ∷ OtherFrame ∷ []
 
 abbrev numbered : List Refusal → ℕ → Refusal
 numbered [] n = KernelLength
@@ -54,6 +54,7 @@ refusal-of NoSegment = refl
 refusal-of InputTooLong = refl
 refusal-of BadRecord = refl
 refusal-of TooManySuppliers = refl
+refusal-of OtherFrame = refl
 
 -- number and detail tell which refusal it is
 pub one-refusal : (r s : Refusal) → refusedBy r ≡ refusedBy s → r ≡ s
@@ -81,3 +82,4 @@ not-0 NoSegment = refl
 not-0 InputTooLong = refl
 not-0 BadRecord = refl
 not-0 TooManySuppliers = refl
+not-0 OtherFrame = refl

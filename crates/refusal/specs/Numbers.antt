@@ -2,7 +2,7 @@
 use Prim.Native.Nat.{ℕ}
 use lib.IntN.{ℤ, pos}
 use Rattle.refusal.specs.declared.Refusal.{Refusal}
-use Rattle.refusal.specs.declared.Refusal.the-variants.{KernelLength, NotDaf, NotLittleEndian, OtherSummaries, RecordPastEnd, RecordTwice, CountOver25, TooManySummaries, Malformed, EpochNan, NoCoverage, Unsupported, ZeroRadius, TableUnfit, NotFinite, EmptyWindow, NoSegment, InputTooLong, BadRecord, TooManySuppliers}
+use Rattle.refusal.specs.declared.Refusal.the-variants.{KernelLength, NotDaf, NotLittleEndian, OtherSummaries, RecordPastEnd, RecordTwice, CountOver25, TooManySummaries, Malformed, EpochNan, NoCoverage, Unsupported, ZeroRadius, TableUnfit, NotFinite, EmptyWindow, NoSegment, InputTooLong, BadRecord, TooManySuppliers, OtherFrame}
 
 abbrev pub numberOf : Refusal → ℕ
 numberOf KernelLength = 1
@@ -25,6 +25,7 @@ numberOf NoSegment = 17
 numberOf InputTooLong = 18
 numberOf BadRecord = 19
 numberOf TooManySuppliers = 20
+numberOf OtherFrame = 21
 
 abbrev pub detailOf : Refusal → ℤ
 detailOf KernelLength = pos 0
@@ -47,3 +48,4 @@ detailOf NoSegment = pos 0
 detailOf InputTooLong = pos 0
 detailOf BadRecord = pos 0
 detailOf TooManySuppliers = pos 0
+detailOf OtherFrame = pos 0

@@ -43,6 +43,8 @@ pub enum Refusal {
     BadRecord,
     // 20: a usage file names a 513th supplier
     TooManySuppliers,
+    // 21: a state is asked in a frame that it can't be turned to
+    OtherFrame,
 }
 
 impl Refusal {
@@ -71,6 +73,7 @@ impl Refusal {
             Refusal::InputTooLong => 18,
             Refusal::BadRecord => 19,
             Refusal::TooManySuppliers => 20,
+            Refusal::OtherFrame => 21,
         }
     }
 
@@ -99,6 +102,7 @@ impl Refusal {
             Refusal::InputTooLong => 0,
             Refusal::BadRecord => 0,
             Refusal::TooManySuppliers => 0,
+            Refusal::OtherFrame => 0,
         }
     }
 }

@@ -1,12 +1,11 @@
 // replay_cases FILE..: replays cases, and writes of each what `ask` or `orient` writes. A file is a run of blocks: four words (0 asked as it stands, 1 asked
-// in ECLIPJ2000, 2 a PCK kernel, 3 segments by their numbers, 4 those of a PCK kernel; the lengths of the kernel that the table is made from, none if
-// it is the kernel itself, of the kernel and of the questions), 72 bytes of matrix if turned, and the three parts. tests/oracle/stored.py makes the
-// stored files and their lines, which are the given Rust's, but for blocks of kind 4, which tests/vectors/alone.py makes with the second program's
-// lines. It stands for a small host: the table goes by value, 256 places.
+// in a frame, 2 a PCK kernel, 3 segments by their numbers, 4 those of a PCK kernel; the lengths of the kernel that the table is made from, none if
+// it is the kernel itself, of the kernel and of the questions), 72 bytes of matrix and the frame's number in four if in a frame, and the three parts.
+// tests/oracle/stored.py makes the stored files and their lines, which are the given Rust's, but for alone.cases and frames.cases, which
+// tests/vectors/alone.py and frames.py make with the second program's lines. It stands for a small host: the table goes by value, 256 places.
 ghost use Prim.Native.Nat.{_+_, _*_, _≤_};
 ghost use lib.ListN.{length};
 use daf::Family;
-use frame::NaifFrame;
 use opening::Opened;
 use opening::Outcome;
 use records::Mark;
@@ -23,11 +22,14 @@ const MARK: Mark = Mark {
     second: 0x5d,
 };
 
-// The block's matrix has so many bytes.
-fn matrix_len(kind: u32) -> usize
-    ensures { λ r. ⌜ r ≤ 72 ⌝ }
+// A matrix, then the number of the frame that is asked for.
+const TURN: usize = admission::MATRIX + 4;
+
+// The block has so many bytes of these.
+fn turn_len(kind: u32) -> usize
+    ensures { λ r. ⌜ r ≤ 76 ⌝ }
 {
-    if kind == 1 { admission::MATRIX } else { 0 }
+    if kind == 1 { TURN } else { 0 }
 }
 
 // Writes a line for each question to an SPK. The memory goes from question to question.
@@ -46,8 +48,8 @@ fn write_answers(kernel: &[u8], table: Table, asked: &[u8], wanted: Wanted, rot:
     }
 }
 
-// Questions to an SPK: the refusal of the opening, or a line each. With a matrix of 72 bytes each state is asked in ECLIPJ2000.
-fn tell_states(kernel: &[u8], opened: Opened, asked: &[u8], matrix: &[u8]) {
+// Questions to an SPK: the refusal of the opening, or a line each. With a matrix and a frame each state is asked in that frame.
+fn tell_states(kernel: &[u8], opened: Opened, asked: &[u8], turn: &[u8]) {
     let outcome = opened.outcome;
     let table = opened.table;
     match outcome {
@@ -55,9 +57,9 @@ fn tell_states(kernel: &[u8], opened: Opened, asked: &[u8], matrix: &[u8]) {
             streams::write_refusal(refusal);
         }
         Outcome::Accepted => {
-            if matrix.len() == admission::MATRIX {
-                let to = Wanted::In(NaifFrame::EclipJ2000);
-                write_answers(kernel, table, asked, to, ask_text::rows(matrix));
+            if turn.len() == TURN {
+                let to = Wanted::In(bits::le_i32(turn, admission::MATRIX));
+                write_answers(kernel, table, asked, to, ask_text::rows(turn));
             } else {
                 let none = [[0.0; 3]; 3];
                 write_answers(kernel, table, asked, Wanted::AsItStands, none);
@@ -158,10 +160,10 @@ fn tell_turned(kernel: &[u8], opened: Opened, asked: &[u8]) {
 }
 
 // Puts the questions to a kernel with the table of `origin`.
-fn tell(kind: u32, matrix: &[u8], origin: &[u8], kernel: &[u8], asked: &[u8]) {
+fn tell(kind: u32, turn: &[u8], origin: &[u8], kernel: &[u8], asked: &[u8]) {
     match kind {
-        0 => tell_states(kernel, ask_text::open(origin, asked), asked, matrix),
-        1 => tell_states(kernel, ask_text::open(origin, asked), asked, matrix),
+        0 => tell_states(kernel, ask_text::open(origin, asked), asked, turn),
+        1 => tell_states(kernel, ask_text::open(origin, asked), asked, turn),
         2 => tell_oriented(kernel, orient_text::open(origin, asked), asked),
         3 => tell_alone(
             kernel,
@@ -183,8 +185,8 @@ fn replay_block(s: &[u8], at: usize) -> usize
     ensures { λ r. ⌜ (at + 16 ≤ r) × (r ≤ length (now (s .entry))) ⌝ }
 {
     let kind = bits::le_u32(s, at);
-    let matrix = at + 16;
-    let origin = matrix + matrix_len(kind);
+    let turn = at + 16;
+    let origin = turn + turn_len(kind);
     let kernel = origin + bits::le_u32(s, at + 4) as usize;
     let asked = kernel + bits::le_u32(s, at + 8) as usize;
     let next = asked + bits::le_u32(s, at + 12) as usize;
@@ -195,7 +197,7 @@ fn replay_block(s: &[u8], at: usize) -> usize
     if origin == kernel {
         tell(
             kind,
-            &s[matrix..origin],
+            &s[turn..origin],
             &s[kernel..asked],
             &s[kernel..asked],
             &s[asked..next],
@@ -203,7 +205,7 @@ fn replay_block(s: &[u8], at: usize) -> usize
     } else {
         tell(
             kind,
-            &s[matrix..origin],
+            &s[turn..origin],
             &s[origin..kernel],
             &s[kernel..asked],
             &s[asked..next],

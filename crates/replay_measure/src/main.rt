@@ -12,6 +12,7 @@ ghost use Rattle.daf.specs.declared.Family.the-variants.{Spk, Pck};
 ghost use Rattle.table.specs.Places.{lentLimit};
 ghost use Rattle.opening.specs.Steps.{planOf};
 use daf::Family;
+use frame::Given;
 use frame::State;
 use opening::Outcome;
 use opening::Plan;
@@ -142,7 +143,8 @@ fn ask(kernel: &[u8], table: Table, asked: &[u8], forget: bool, passes: u64) -> 
         if !answered(way) {
             return sum;
         }
-        let state = answer.state;
+        let given = answer.given;
+        let state = given.state;
         sum = sum.plus(state);
         if !forget {
             memory = r.memory;
@@ -254,7 +256,8 @@ fn with_answer(run: Sums, r: Asked, forget: bool) -> Sums {
     } else {
         spk::place_kept(memory, Table::LENT)
     };
-    let state = answer.state;
+    let given = answer.given;
+    let state = given.state;
     let sum = run.sum;
     let total = sum.plus(state);
     Sums {
@@ -302,10 +305,11 @@ fn unasked(q: spk::Question, kept: Memory) -> Asked {
     } else {
         Way::Same
     };
+    let given = Given::of(state, frame::J2000);
     Asked {
         answer: Answer {
             way: way,
-            state: state,
+            given: given,
         },
         memory: kept,
     }

@@ -12,7 +12,7 @@ fn print(kernel: &[u8], asked: &[u8])
     requires { ⌜ length (now asked) ≤ inputLimit + 1 ⌝ }
 {
     let mut out = [0u8; ask_text::ROOM];
-    let end = ask_text::put_text(&mut out, kernel, asked, b"");
+    let end = ask_text::put_text(&mut out, kernel, asked, b"", frame::ECLIPJ2000);
     streams::write(&out, end);
 }
 

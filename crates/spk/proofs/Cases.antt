@@ -10,10 +10,11 @@ use Rattle.bits.specs.F64.{+0, whole}
 use Rattle.bits.specs.Same.{sameZ}
 use Rattle.frame.specs.declared.State.{State}
 use Rattle.frame.specs.State.{stateOf, zeroState, negatedState, plusState, minusState, finiteState}
-use Rattle.frame.specs.Frame.{matrix, turnedBetween}
-use Rattle.frame.specs.declared.NaifFrame.the-variants.{J2000, EclipJ2000}
+use Rattle.frame.specs.Frame.{matrix}
+use Rattle.frame.specs.Given.{givenOf}
+use Rattle.frame.specs.declared.Framed.the-variants.{Mixed}
 use Rattle.refusal.specs.declared.Refusal.{Refusal}
-use Rattle.refusal.specs.declared.Refusal.the-variants.{EpochNan, NoCoverage, TableUnfit, NotFinite, NoSegment, Unsupported}
+use Rattle.refusal.specs.declared.Refusal.the-variants.{EpochNan, NoCoverage, TableUnfit, NotFinite, NoSegment, OtherFrame, Unsupported}
 use Rattle.segment.specs.declared.Segment.{Segment}
 use Rattle.segment.specs.declared.Kind.the-variants as kinds
 use Rattle.segment.specs.declared.Evaluated.{Evaluated}
@@ -27,22 +28,23 @@ use Rattle.spk.specs.declared.Memory.{Memory}
 use Rattle.spk.specs.declared.Memory.the-variants.{Blank, Kept}
 use Rattle.spk.specs.declared.Way.{Way}
 use Rattle.spk.specs.declared.Way.the-variants.{Same, Forward, Reversed, Chained, Refused}
+use Rattle.spk.specs.declared.Answer.{Answer}
 use Rattle.spk.specs.declared.Asked.{Asked}
 use Rattle.spk.specs.declared.Wanted.the-variants.{AsItStands, In}
 use Rattle.spk.specs.Choosing.{recall, forwardIn}
 use Rattle.spk.specs.Answers.{answerOf, refusedAnswer, sameAnswer, settled, negatedOf, differenceOf}
 use Rattle.spk.specs.Asking.{chained, askedBy, asked}
-use Rattle.spk.specs.Turning.{turnedTo, askedIn}
-use Rattle.spk.specs.Alone.{aloneAnswer}
+use Rattle.spk.specs.Turning.{turnedBy, turnedTo, askedIn}
+use Rattle.spk.specs.Alone.{aloneWith, aloneAnswer}
 use Rattle.spk.specs.Runs.{Asking, Plain, InFrame, Single, fresh, run}
 
--- a segment of a pair and two epochs, of a type, with a number for its evaluation
-abbrev of-type : ℕ → ℕ → ℕ → ℕ → ℕ → ℕ → Segment
-of-type type t c a b x =
+-- a segment of a pair and two epochs, in a frame, of a type, with a number for its evaluation
+abbrev in-frame : ℕ → ℕ → ℕ → ℕ → ℕ → ℕ → ℕ → Segment
+in-frame f type t c a b x =
     record {
       target = pos t;
       center = pos c;
-      frame = pos 1;
+      frame = pos f;
       «data_type» = pos type;
       start = pos x;
       end = pos 9;
@@ -52,6 +54,9 @@ of-type type t c a b x =
       marked = false;
       kind = kinds.Unsupported;
     }
+
+abbrev of-type : ℕ → ℕ → ℕ → ℕ → ℕ → ℕ → Segment
+of-type = in-frame 1
 
 -- six times a number
 abbrev six : Float → State
@@ -76,8 +81,12 @@ pair t c et = record { target = pos t; center = pos c; et = et }
 abbrev ask : Memory → Question → Asked
 ask m q = asked 6 evaluate six-of 6 m q
 
+-- an answer of six times a number, in frame 1
+abbrev in-1 : Way → Float → Answer
+in-1 way x = answerOf way (givenOf (six x) (pos 1))
+
 abbrev gives : Way → Float → Memory → Asked
-gives way x m = record { answer = answerOf way (six x); memory = m }
+gives way x m = record { answer = in-1 way x; memory = m }
 
 abbrev refuses : Refusal → Memory → Asked
 refuses r m = record { answer = refusedAnswer r; memory = m }
@@ -117,27 +126,55 @@ pub chain-cases :
 unfolding askedBy forwardIn recall lastIn markedTo others settled refusedAnswer finiteState zeroState le neg isNan ofInt ofBits chained differenceOf toZero walkFrom stepFrom stepIn look met plusState minusState add sub
 chain-cases = refl
 
--- same-body zeros are turned like any other state: nine times -1 make them -0; in J2000 and without a frame they stand; a refusal stays;
--- 15 is asked of the turned state
+-- a question in a frame, by the matrix of nine times a number
+abbrev ask-in : ℕ → Float → Question → Answer
+ask-in to x q = askedIn 6 evaluate six-of 6 Blank q (In (pos to)) (matrix 3 (λ i j. x)) .answer
+
+-- same-body zeros are turned as from J2000: nine times -1 make them -0; in J2000 and without a frame they stand, and in 13 they are 21; a refusal
+-- stays; 15 is asked of the turned state
 pub turned-cases :
-    map (λ (a : Asked). a .answer)
-    (askedIn 6 evaluate six-of 6 Blank (pair 5 5 nan) (In EclipJ2000) (matrix 3 (λ i j. neg (whole 1)))
-    ∷ askedIn 6 evaluate six-of 6 Blank (pair 5 5 nan) (In J2000) (matrix 3 (λ i j. neg (whole 1)))
-    ∷ askedIn 6 evaluate six-of 6 Blank (pair 5 5 nan) AsItStands (matrix 3 (λ i j. neg (whole 1)))
-    ∷ askedIn 6 evaluate six-of 6 Blank (pair 8 9 (whole 3)) (In EclipJ2000) (matrix 3 (λ i j. neg (whole 1)))
-    ∷ askedIn 6 evaluate six-of 6 Blank (pair 3 0 (whole 3)) (In EclipJ2000) (matrix 3 (λ i j. whole 1))
-    ∷ askedIn 6 evaluate six-of 6 Blank (pair 3 0 (whole 3)) (In EclipJ2000) (matrix 3 (λ i j. inf false))
-    ∷ [])
-    ≡ answerOf Same (six (neg +0)) ∷ answerOf Same (six +0) ∷ answerOf Same (six +0) ∷ refusedAnswer (Unsupported (pos 1)) ∷ answerOf (Forward 2) (six (whole 12)) ∷ refusedAnswer NotFinite ∷ []
-unfolding askedBy forwardIn recall lastIn markedTo others settled sameAnswer refusedAnswer finiteState zeroState le neg isNan ofInt ofBits turnedTo turnedBetween add mul
+    ask-in 17 (neg (whole 1)) (pair 5 5 nan) ∷ ask-in 1 (neg (whole 1)) (pair 5 5 nan) ∷ ask-in 13 (neg (whole 1)) (pair 5 5 nan)
+    ∷ askedIn 6 evaluate six-of 6 Blank (pair 5 5 nan) AsItStands (matrix 3 (λ i j. neg (whole 1))) .answer
+    ∷ ask-in 17 (neg (whole 1)) (pair 8 9 (whole 3)) ∷ ask-in 17 (whole 1) (pair 3 0 (whole 3)) ∷ ask-in 17 (inf false) (pair 3 0 (whole 3)) ∷ []
+    ≡ answerOf Same (givenOf (six (neg +0)) (pos 17)) ∷ in-1 Same +0 ∷ refusedAnswer OtherFrame ∷ in-1 Same +0
+    ∷ refusedAnswer (Unsupported (pos 1)) ∷ answerOf (Forward 2) (givenOf (six (whole 12)) (pos 17)) ∷ refusedAnswer NotFinite ∷ []
+unfolding askedBy forwardIn recall lastIn markedTo others settled sameAnswer refusedAnswer finiteState zeroState le neg isNan ofInt ofBits turnedTo turnedBy add mul
 turned-cases = refl
+
+-- 0: 5 about 0 in 17; 1: 6 about 0 in 13; 2, 3: 7 about 0 and about 8, in 17, the second passed over; 4: 9 about 0 in 1; 5: 8 about 7 in 1, refused
+abbrev frames-of : List Segment
+frames-of =
+    in-frame 17 2 5 0 0 10 1 ∷ in-frame 13 2 6 0 0 10 2 ∷ in-frame 1 2 7 8 0 10 4 ∷ in-frame 17 2 7 0 0 10 4 ∷ in-frame 1 2 9 0 0 10 8 ∷ in-frame 17 1 8 7 0 10 0 ∷ []
+
+abbrev frame-in : ℕ → Float → Question → Answer
+frame-in to x q = askedIn 6 evaluate frames-of 6 Blank q (In (pos to)) (matrix 3 (λ i j. x)) .answer
+
+abbrev told : Way → Float → ℕ → Answer
+told way x f = answerOf way (givenOf (six x) (pos f))
+
+-- a segment in 17 stands in 17 and is turned back to 1; one in 13 stands in 13 alone; by an infinity a state that stands is not touched
+pub own-frame-cases :
+    frame-in 17 (inf false) (pair 5 0 (whole 3)) ∷ frame-in 1 (whole 1) (pair 5 0 (whole 3)) ∷ frame-in 13 (inf false) (pair 6 0 (whole 3)) ∷ frame-in 1 (inf false) (pair 6 0 (whole 3)) ∷ frame-in 17 (inf false) (pair 0 5 (whole 3)) ∷ []
+    ≡ told (Forward 0) (whole 1) 17 ∷ told (Forward 0) (whole 3) 1 ∷ told (Forward 1) (whole 2) 13 ∷ refusedAnswer OtherFrame ∷ told (Reversed 0) (neg (whole 1)) 17 ∷ []
+unfolding askedBy forwardIn recall lastIn settled negatedOf negatedState refusedAnswer finiteState zeroState le neg isNan ofInt ofBits turnedTo turnedBy add mul
+own-frame-cases = refl
+
+-- a chain of 17 and 17 with a segment in 1 passed over stands in 17 and is turned back to 1; one of 17 and 1 is 21 in every frame, also by an infinity,
+-- and has no frame of its own; a state's own refusal comes before 21
+pub chain-frame-cases :
+    frame-in 17 (inf false) (pair 7 5 (whole 3)) ∷ frame-in 1 (whole 1) (pair 7 5 (whole 3)) ∷ frame-in 17 (inf false) (pair 9 5 (whole 3)) ∷ frame-in 1 (whole 1) (pair 9 5 (whole 3))
+    ∷ asked 6 evaluate frames-of 6 Blank (pair 9 5 (whole 3)) .answer ∷ frame-in 13 (whole 1) (pair 8 7 (whole 3)) ∷ []
+    ≡ told Chained (whole 3) 17 ∷ told Chained (whole 9) 1 ∷ refusedAnswer OtherFrame ∷ refusedAnswer OtherFrame
+    ∷ answerOf Chained (record { state = six (whole 7); frame = Mixed }) ∷ refusedAnswer (Unsupported (pos 1)) ∷ []
+unfolding askedBy forwardIn recall lastIn settled refusedAnswer finiteState zeroState le neg isNan ofInt ofBits turnedTo turnedBy add mul chained differenceOf toZero walkFrom stepFrom stepIn look met plusState minusState sub
+chain-frame-cases = refl
 
 -- a segment alone, covering or not: 14, 10, 17, its own refusal, 15
 pub alone-cases :
     aloneAnswer 6 evaluate six-of 6 0 (whole 99) ∷ aloneAnswer 6 evaluate six-of 7 9 nan ∷ aloneAnswer 6 evaluate six-of 6 9 nan ∷ aloneAnswer 6 evaluate six-of 6 6 (whole 3)
     ∷ aloneAnswer 6 evaluate six-of 6 4 (whole 3) ∷ aloneAnswer 6 evaluate six-of 6 5 (whole 3) ∷ []
-    ≡ answerOf (Forward 0) (six (whole 1)) ∷ refusedAnswer TableUnfit ∷ refusedAnswer EpochNan ∷ refusedAnswer NoSegment ∷ refusedAnswer (Unsupported (pos 1)) ∷ refusedAnswer NotFinite ∷ []
-unfolding aloneAnswer markedTo others settled refusedAnswer finiteState zeroState le isNan ofInt ofBits
+    ≡ in-1 (Forward 0) (whole 1) ∷ refusedAnswer TableUnfit ∷ refusedAnswer EpochNan ∷ refusedAnswer NoSegment ∷ refusedAnswer (Unsupported (pos 1)) ∷ refusedAnswer NotFinite ∷ []
+unfolding aloneWith markedTo others settled refusedAnswer finiteState zeroState le isNan ofInt ofBits
 alone-cases = refl
 
 -- a run with the memory, and without: a remembered answer, one of another pair, a refusal, a reversed one, a segment alone
@@ -146,5 +183,5 @@ asks =
     Plain (pair 3 0 (whole 3)) ∷ Plain (pair 3 0 (whole 4)) ∷ Plain (pair 399 3 (whole 8)) ∷ Plain (pair 8 9 (whole 3)) ∷ InFrame (pair 0 3 (whole 3)) AsItStands [] ∷ Single 3 (whole 3) ∷ Plain (pair 3 0 (whole 5)) ∷ []
 
 pub run-cases : run 6 evaluate six-of 6 Blank asks ≡ map (fresh 6 evaluate six-of 6) asks
-unfolding run askedBy forwardIn recall lastIn markedTo others settled negatedOf negatedState refusedAnswer finiteState zeroState le neg isNan ofInt ofBits aloneAnswer
+unfolding run askedBy forwardIn recall lastIn markedTo others settled negatedOf negatedState refusedAnswer finiteState zeroState le neg isNan ofInt ofBits aloneWith
 run-cases = refl

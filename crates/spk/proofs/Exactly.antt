@@ -2,6 +2,7 @@
 --     exactly-10, exactly-11, exactly-own, exactly-14, exactly-15    10; 11 for a body; 12 and 13; 14; 15
 --     no-other         no number but 10 to 15 is given
 --     refused-zeros    with a refusal stand six zeros and no segment
+--     answered-gives   any other answer holds the state that was given, in the frame of the segments that gave it
 --     never-14         where the count fits and no segment is refused with 14, no question is
 -- A state in a frame is in `ExactlyIn`, a segment alone in `ExactlyAlone`. Assumes nothing.
 use Prim.Native.Nat.{ℕ, _≤_, _<_}
@@ -17,7 +18,9 @@ use lib.IntN.{ℤ}
 use borrow.Author.Tests.{eqb-true}
 use Rattle.bits.proofs.Tests.{by-test}
 use Rattle.frame.specs.declared.State.{State}
-use Rattle.frame.specs.State.{negatedState, minusState, finiteState}
+use Rattle.frame.specs.declared.Given.{Given}
+use Rattle.frame.specs.State.{finiteState}
+use Rattle.frame.specs.Given.{negatedGiven, minusGiven}
 use Rattle.refusal.specs.declared.Refusal.{Refusal}
 use Rattle.refusal.specs.declared.Refusal.the-variants.{EpochNan, NoCoverage, TableUnfit, NotFinite}
 use Rattle.refusal.specs.Numbers.{numberOf}
@@ -29,7 +32,9 @@ use Rattle.table.specs.declared.Choice.the-variants.{At, Nothing}
 use Rattle.table.specs.Segments.{seg}
 use Rattle.table.proofs.Last.{chosen-at, last-chosen}
 use Rattle.chain.specs.declared.Leg.{Leg}
-use Rattle.chain.specs.Step.{Evaluation}
+use Rattle.chain.specs.declared.Yielded.{Yielded}
+use Rattle.chain.specs.declared.Yielded.the-variants as yielded
+use Rattle.chain.specs.Step.{Evaluation, givenBy, yieldOf}
 use Rattle.chain.specs.Walk.{chainLimit, walkFrom, toZero}
 use Rattle.chain.specs.When.{isOwn, OwnOnly, Stuck, Failed}
 use Rattle.chain.proofs.Walks.{zero-walk}
@@ -62,39 +67,59 @@ pub answer-refused : (r s : Refusal) → refusedAnswer r .way ≡ ways.Refused s
 answer-refused r s h = let e : _≡_ {A = Way} (ways.Refused r) (ways.Refused s) = sym (way-refused r) ∙ h in cc
 
 -- why an evaluation that was settled is refused: by itself, or by 15
-pub settled-why : (way : Way) (e : Evaluated) (r : Refusal) → isRefused way ≡ false → settled way e .way ≡ ways.Refused r
-    → (e ≡ evaluation.Refused r) ⊎ ((s : State) × (e ≡ evaluation.State s) × (finiteState s ≡ false) × (NotFinite ≡ r))
+pub settled-why : (way : Way) (e : Yielded) (r : Refusal) → isRefused way ≡ false → settled way e .way ≡ ways.Refused r
+    → (e ≡ yielded.Refused r) ⊎ ((g : Given) × (e ≡ yielded.Given g) × (finiteState (g .state) ≡ false) × (NotFinite ≡ r))
 unfolding settled
-settled-why way (evaluation.Refused x) r w h = inl (ap evaluation.Refused (answer-refused x r h))
-settled-why way (evaluation.State s) r w h = go (finiteState s) refl h
+settled-why way (yielded.Refused x) r w h = inl (ap yielded.Refused (answer-refused x r h))
+settled-why way (yielded.Given g) r w h = go (finiteState (g .state)) refl h
   where
-    go : (b : Bool) → finiteState s ≡ b → cond b (answerOf way s) (refusedAnswer NotFinite) .way ≡ ways.Refused r
-        → (_≡_ {A = Evaluated} (evaluation.State s) (evaluation.Refused r)) ⊎ ((x : State) × (evaluation.State s ≡ evaluation.State x) × (finiteState x ≡ false) × (NotFinite ≡ r))
+    go : (b : Bool) → finiteState (g .state) ≡ b → cond b (answerOf way g) (refusedAnswer NotFinite) .way ≡ ways.Refused r
+        → (_≡_ {A = Yielded} (yielded.Given g) (yielded.Refused r)) ⊎ ((x : Given) × (yielded.Given g ≡ yielded.Given x) × (finiteState (x .state) ≡ false) × (NotFinite ≡ r))
     go true f e = absurd (true≢false (sym (ap isRefused e) ∙ w))
-    go false f e = inr (s, refl, f, answer-refused NotFinite r e)
+    go false f e = inr (g, refl, f, answer-refused NotFinite r e)
+
+-- what an evaluation that was settled and is no refusal gave, and that the answer holds it
+pub settled-gives : (way : Way) (e : Yielded) → isRefused (settled way e .way) ≡ false → (g : Given) × (e ≡ yielded.Given g) × (settled way e .given ≡ g)
+unfolding settled refusedAnswer
+settled-gives way (yielded.Refused r) h = absurd (true≢false h)
+settled-gives way (yielded.Given g) h = go (finiteState (g .state)) h
+  where
+    go : (b : Bool) → isRefused (cond b (answerOf way g) (refusedAnswer NotFinite) .way) ≡ false
+        → (x : Given) × (yielded.Given g ≡ yielded.Given x) × (cond b (answerOf way g) (refusedAnswer NotFinite) .given ≡ x)
+    go true e = (g, refl, refl)
+    go false e = absurd (true≢false e)
 
 same-open : (r : Refusal) → sameAnswer .way ≡ ways.Refused r → ⊥
 unfolding sameAnswer
 same-open r h = clash (cc)
 
-pub state-open : {X : Type 0} (s : State) (r : Refusal) → _≡_ {A = Evaluated} (evaluation.State s) (evaluation.Refused r) → X
-state-open s r h = clash (cc)
+pub given-open : {X : Type 0} (g : Given) (r : Refusal) → _≡_ {A = Yielded} (yielded.Given g) (yielded.Refused r) → X
+given-open g r h = clash (cc)
 
-refusal-eq : (r s : Refusal) → _≡_ {A = Evaluated} (evaluation.Refused r) (evaluation.Refused s) → r ≡ s
+refusal-eq : (r s : Refusal) → _≡_ {A = Yielded} (yielded.Refused r) (yielded.Refused s) → r ≡ s
 refusal-eq r s h = cc
 
-pub negated-why : (e : Evaluated) (r : Refusal) → negatedOf e ≡ evaluation.Refused r → e ≡ evaluation.Refused r
-unfolding negatedOf
-negated-why (evaluation.State s) r h = state-open _ r h
-negated-why (evaluation.Refused x) r h = h
+-- what a segment gives is a refusal, or a state, exactly where its evaluation is
+pub yield-why : (s : Segment) (e : Evaluated) (r : Refusal) → yieldOf s e ≡ yielded.Refused r → e ≡ evaluation.Refused r
+yield-why s (evaluation.State x) r h = given-open _ r h
+yield-why s (evaluation.Refused x) r h = ap evaluation.Refused (refusal-eq x r h)
 
-pub state-eq : (a b : State) → _≡_ {A = Evaluated} (evaluation.State a) (evaluation.State b) → a ≡ b
-state-eq a b h = cc
-
-negated-gives : (e : Evaluated) (s : State) → negatedOf e ≡ evaluation.State s → (x : State) × (e ≡ evaluation.State x) × (negatedState x ≡ s)
+pub negated-why : (e : Yielded) (r : Refusal) → negatedOf e ≡ yielded.Refused r → e ≡ yielded.Refused r
 unfolding negatedOf
-negated-gives (evaluation.State x) s h = (x, refl, state-eq _ s h)
-negated-gives (evaluation.Refused x) s h = state-open s x (sym h)
+negated-why (yielded.Given g) r h = given-open _ r h
+negated-why (yielded.Refused x) r h = h
+
+pub given-one : (a b : Given) → _≡_ {A = Yielded} (yielded.Given a) (yielded.Given b) → a ≡ b
+given-one a b h = cc
+
+pub yield-gives : (s : Segment) (e : Evaluated) (g : Given) → yieldOf s e ≡ yielded.Given g → (x : State) × (e ≡ evaluation.State x) × (givenBy s x ≡ g)
+yield-gives s (evaluation.State x) g h = (x, refl, given-one _ g h)
+yield-gives s (evaluation.Refused r) g h = given-open g r (sym h)
+
+negated-gives : (e : Yielded) (g : Given) → negatedOf e ≡ yielded.Given g → (x : Given) × (e ≡ yielded.Given x) × (negatedGiven x ≡ g)
+unfolding negatedOf
+negated-gives (yielded.Given x) g h = (x, refl, given-one _ g h)
+negated-gives (yielded.Refused x) g h = given-open g x (sym h)
 
 -- a number of an evaluation's own
 pub own-within : (k : ℕ) → (eqb k 12 || eqb k 13 || eqb k 14) ≡ true → (12 ≤ k) × (k ≤ 14)
@@ -108,14 +133,14 @@ own-within k h =
 -- ---- the chain is refused exactly where one of its walks is
 module _ (ev : Evaluation) (segs : List Segment) (n : ℕ) (q : Question) where
   -- what holds of a walk that is refused
-  in-chain : (P : Leg → Type 0) (r : Refusal) → ((leg : Leg) → P leg → walkFrom ev segs n leg chainLimit ≡ evaluation.Refused r) → InChain ev segs n P q
-      → chained ev segs n q ≡ evaluation.Refused r
+  in-chain : (P : Leg → Type 0) (r : Refusal) → ((leg : Leg) → P leg → walkFrom ev segs n leg chainLimit ≡ yielded.Refused r) → InChain ev segs n P q
+      → chained ev segs n q ≡ yielded.Refused r
   unfolding chained differenceOf
   in-chain P r f w =
-      ⊎-elim (λ x. ap (λ (e : Evaluated). differenceOf e (toZero ev segs n (legFrom (swapped q)))) (of q x))
+      ⊎-elim (λ x. ap (λ (e : Yielded). differenceOf e (toZero ev segs n (legFrom (swapped q)))) (of q x))
       (λ x. ap₂ differenceOf (x .0 .1) (of (swapped q) (x .1))) w
     where
-      of : (p : Question) → OfWalk ev segs n P p → toZero ev segs n (legFrom p) ≡ evaluation.Refused r
+      of : (p : Question) → OfWalk ev segs n P p → toZero ev segs n (legFrom p) ≡ yielded.Refused r
       of p x = zero-walk ev segs n (legFrom p) (x .0) ∙ f (legFrom p) (x .1)
 
   -- why it is refused: by a segment, or stuck
@@ -124,30 +149,30 @@ module _ (ev : Evaluation) (segs : List Segment) (n : ℕ) (q : Question) where
       ((i : ℕ) × InChain ev segs n (λ leg. Failed ev segs n leg chainLimit i r) q)
       ⊎ ((b : ℤ) × InChain ev segs n (λ leg. Stuck ev segs n leg chainLimit b) q × (NoCoverage b ≡ r))
 
-  chain-why : (r : Refusal) → chained ev segs n q ≡ evaluation.Refused r → Why-chain r
+  chain-why : (r : Refusal) → chained ev segs n q ≡ yielded.Refused r → Why-chain r
   unfolding chained differenceOf
   chain-why r h = go (toZero ev segs n (legFrom q)) (toZero ev segs n (legFrom (swapped q))) refl refl h
     where
-      go : (a b : Evaluated) → toZero ev segs n (legFrom q) ≡ a → toZero ev segs n (legFrom (swapped q)) ≡ b → differenceOf a b ≡ evaluation.Refused r → Why-chain r
-      go (evaluation.State x) (evaluation.State y) u v e = state-open _ r e
-      go (evaluation.State x) (evaluation.Refused y) u v e =
+      go : (a b : Yielded) → toZero ev segs n (legFrom q) ≡ a → toZero ev segs n (legFrom (swapped q)) ≡ b → differenceOf a b ≡ yielded.Refused r → Why-chain r
+      go (yielded.Given x) (yielded.Given y) u v e = given-open _ r e
+      go (yielded.Given x) (yielded.Refused y) u v e =
           let w = zero-why ev segs n (legFrom (swapped q)) r (v ∙ e) in
           ⊎-elim (λ f. inl (f .0, inr ((x, u), (w .0, f .1)))) (λ s. inr (s .0, inr ((x, u), (w .0, s .1)), s .2)) (w .1)
-      go (evaluation.Refused x) b u v e =
+      go (yielded.Refused x) b u v e =
           let w = zero-why ev segs n (legFrom q) r (u ∙ e) in
           ⊎-elim (λ f. inl (f .0, inl (w .0, f .1))) (λ s. inr (s .0, inl (w .0, s .1), s .2)) (w .1)
 
   -- a state, of both walks
-  chain-gives : (s : State) → chained ev segs n q ≡ evaluation.State s
-      → (a : Arrives ev segs n q) × (b : Arrives ev segs n (swapped q)) × (minusState (a .0) (b .0) ≡ s)
+  chain-gives : (g : Given) → chained ev segs n q ≡ yielded.Given g
+      → (a : Arrives ev segs n q) × (b : Arrives ev segs n (swapped q)) × (minusGiven (a .0) (b .0) ≡ g)
   unfolding chained differenceOf
-  chain-gives s h = go (toZero ev segs n (legFrom q)) (toZero ev segs n (legFrom (swapped q))) refl refl h
+  chain-gives g h = go (toZero ev segs n (legFrom q)) (toZero ev segs n (legFrom (swapped q))) refl refl h
     where
-      go : (a b : Evaluated) → toZero ev segs n (legFrom q) ≡ a → toZero ev segs n (legFrom (swapped q)) ≡ b → differenceOf a b ≡ evaluation.State s
-          → (x : Arrives ev segs n q) × (y : Arrives ev segs n (swapped q)) × (minusState (x .0) (y .0) ≡ s)
-      go (evaluation.State x) (evaluation.State y) u v e = ((x, u), (y, v), state-eq _ s e)
-      go (evaluation.State x) (evaluation.Refused y) u v e = state-open s y (sym e)
-      go (evaluation.Refused x) b u v e = state-open s x (sym e)
+      go : (a b : Yielded) → toZero ev segs n (legFrom q) ≡ a → toZero ev segs n (legFrom (swapped q)) ≡ b → differenceOf a b ≡ yielded.Given g
+          → (x : Arrives ev segs n q) × (y : Arrives ev segs n (swapped q)) × (minusGiven (x .0) (y .0) ≡ g)
+      go (yielded.Given x) (yielded.Given y) u v e = ((x, u), (y, v), given-one _ g e)
+      go (yielded.Given x) (yielded.Refused y) u v e = given-open g y (sym e)
+      go (yielded.Refused x) b u v e = given-open g x (sym e)
 
 -- a choice's way is no refusal
 way-open : (ev : Evaluation) (segs : List Segment) (n : ℕ) (q : Question) (c : Choice) → isRefused (foundBy ev segs n q c .way) ≡ false
@@ -168,54 +193,57 @@ module _ (limit : ℕ) (ev : Evaluation) (segs : List Segment) (n : ℕ) (m : Me
     by : (i : ℕ) → Refuses limit ev segs n m q i r → Found-why r
     stuck : (b : ℤ) → Chaining limit ev segs n m q → InChain ev segs n (λ leg. Stuck ev segs n leg chainLimit b) q → NoCoverage b ≡ r → Found-why r
 
-  found-why : (r : Refusal) → found .result ≡ evaluation.Refused r → Found-why r
+  found-why : (r : Refusal) → found .result ≡ yielded.Refused r → Found-why r
   found-why r h = go (forwardIn segs n m q) refl h
     where
-      back : (c : Choice) → forwardIn segs n m q ≡ Nothing → lastReversed segs n q ≡ c → backward ev segs n q c .result ≡ evaluation.Refused r → Found-why r
-      back (At i) e f x = by i (reversed e f (negated-why _ r x))
+      back : (c : Choice) → forwardIn segs n m q ≡ Nothing → lastReversed segs n q ≡ c → backward ev segs n q c .result ≡ yielded.Refused r → Found-why r
+      back (At i) e f x = by i (reversed e f (yield-why (seg segs i) _ r (negated-why _ r x)))
       back Nothing e f x =
           let c : Chaining limit ev segs n m q = record { forward = e; reversed = f } in
           ⊎-elim (λ w. by (w .0) (when.chained c (w .1))) (λ w. stuck (w .0) c (w .1) (w .2)) (chain-why ev segs n q r x)
 
-      go : (c : Choice) → forwardIn segs n m q ≡ c → foundBy ev segs n q c .result ≡ evaluation.Refused r → Found-why r
-      go (At i) e x = by i (forward e x)
+      go : (c : Choice) → forwardIn segs n m q ≡ c → foundBy ev segs n q c .result ≡ yielded.Refused r → Found-why r
+      go (At i) e x = by i (forward e (yield-why (seg segs i) _ r x))
       go Nothing e x = back (lastReversed segs n q) e refl x
 
-  found-chain : (e : Evaluated) → Chaining limit ev segs n m q → chained ev segs n q ≡ e → found .result ≡ e
+  found-chain : (e : Yielded) → Chaining limit ev segs n m q → chained ev segs n q ≡ e → found .result ≡ e
   found-chain e c h =
       ap (λ (x : Choice). foundBy ev segs n q x .result) (c .forward) ∙ ap (λ (x : Choice). backward ev segs n q x .result) (c .reversed) ∙ h
 
-  found-refused : (r : Refusal) → Found-why r → found .result ≡ evaluation.Refused r
-  found-refused r (by i (forward e v)) = ap (λ (x : Choice). foundBy ev segs n q x .result) e ∙ v
+  found-refused : (r : Refusal) → Found-why r → found .result ≡ yielded.Refused r
+  found-refused r (by i (forward e v)) = ap (λ (x : Choice). foundBy ev segs n q x .result) e ∙ ap (yieldOf (seg segs i)) v
   found-refused r (by i (reversed e f v)) =
-      ap (λ (x : Choice). foundBy ev segs n q x .result) e ∙ ap (λ (x : Choice). backward ev segs n q x .result) f ∙ negated-refused _ r v
+      ap (λ (x : Choice). foundBy ev segs n q x .result) e ∙ ap (λ (x : Choice). backward ev segs n q x .result) f ∙ negated-refused _ r (ap (yieldOf (seg segs i)) v)
   found-refused r (by i (when.chained c w)) =
-      found-chain (evaluation.Refused r) c (in-chain ev segs n q (λ leg. Failed ev segs n leg chainLimit i r) r (λ leg. failed-where ev segs n leg chainLimit i r) w)
+      found-chain (yielded.Refused r) c (in-chain ev segs n q (λ leg. Failed ev segs n leg chainLimit i r) r (λ leg. failed-where ev segs n leg chainLimit i r) w)
   found-refused r (stuck b c w e) =
-      found-chain (evaluation.Refused r) c
-      (in-chain ev segs n q (λ leg. Stuck ev segs n leg chainLimit b) r (λ leg x. stuck-where ev segs n leg chainLimit b x ∙ ap evaluation.Refused e) w)
+      found-chain (yielded.Refused r) c
+      (in-chain ev segs n q (λ leg. Stuck ev segs n leg chainLimit b) r (λ leg x. stuck-where ev segs n leg chainLimit b x ∙ ap yielded.Refused e) w)
 
   -- a state, and by which way
-  found-gives : (s : State) → found .result ≡ evaluation.State s → Gives limit ev segs n m q s
-  found-gives s h = go (forwardIn segs n m q) refl h
+  found-gives : (g : Given) → found .result ≡ yielded.Given g → Gives limit ev segs n m q g
+  found-gives g h = go (forwardIn segs n m q) refl h
     where
-      back : (c : Choice) → forwardIn segs n m q ≡ Nothing → lastReversed segs n q ≡ c → backward ev segs n q c .result ≡ evaluation.State s → Gives limit ev segs n m q s
-      back (At i) e f x = let w = negated-gives _ s x in by-reversed i (w .0) e f (w .1) (w .2)
-      back Nothing e f x = let w = chain-gives ev segs n q s x in by-chain (record { forward = e; reversed = f }) (w .0) (w .1) (w .2)
+      back : (c : Choice) → forwardIn segs n m q ≡ Nothing → lastReversed segs n q ≡ c → backward ev segs n q c .result ≡ yielded.Given g → Gives limit ev segs n m q g
+      back (At i) e f x =
+          let w = negated-gives _ g x in
+          let v = yield-gives (seg segs i) _ (w .0) (w .1) in
+          by-reversed i (v .0) e f (v .1) (ap negatedGiven (v .2) ∙ w .2)
+      back Nothing e f x = let w = chain-gives ev segs n q g x in by-chain (record { forward = e; reversed = f }) (w .0) (w .1) (w .2)
 
-      go : (c : Choice) → forwardIn segs n m q ≡ c → foundBy ev segs n q c .result ≡ evaluation.State s → Gives limit ev segs n m q s
-      go (At i) e x = by-forward i e x
+      go : (c : Choice) → forwardIn segs n m q ≡ c → foundBy ev segs n q c .result ≡ yielded.Given g → Gives limit ev segs n m q g
+      go (At i) e x = let v = yield-gives (seg segs i) _ g x in by-forward i (v .0) e (v .1) (v .2)
       go Nothing e x = back (lastReversed segs n q) e refl x
 
-  gives-found : (s : State) → Gives limit ev segs n m q s → found .result ≡ evaluation.State s
+  gives-found : (g : Given) → Gives limit ev segs n m q g → found .result ≡ yielded.Given g
   unfolding chained differenceOf
-  gives-found s (by-forward i e v) = ap (λ (x : Choice). foundBy ev segs n q x .result) e ∙ v
-  gives-found s (by-reversed i x e f v z) =
+  gives-found g (by-forward i x e v z) = ap (λ (y : Choice). foundBy ev segs n q y .result) e ∙ ap (yieldOf (seg segs i)) v ∙ ap yielded.Given z
+  gives-found g (by-reversed i x e f v z) =
       ap (λ (y : Choice). foundBy ev segs n q y .result) e
       ∙ ap (λ (y : Choice). backward ev segs n q y .result) f
-      ∙ negated-state _ x v
-      ∙ ap evaluation.State z
-  gives-found s (by-chain c a b z) = found-chain (evaluation.State s) c (ap₂ differenceOf (a .1) (b .1) ∙ ap evaluation.State z)
+      ∙ negated-state _ (givenBy (seg segs i) x) (ap (yieldOf (seg segs i)) v)
+      ∙ ap yielded.Given z
+  gives-found g (by-chain c a b z) = found-chain (yielded.Given g) c (ap₂ differenceOf (a .1) (b .1) ∙ ap yielded.Given z)
 
   -- the segment that refuses is of the table, and is evaluated so
   pub refuses-own : (i : ℕ) (r : Refusal) → Refuses limit ev segs n m q i r → (i < n) × (ev (seg segs i) i (q .et) ≡ evaluation.Refused r)
@@ -248,7 +276,7 @@ module _ (limit : ℕ) (ev : Evaluation) (segs : List Segment) (n : ℕ) (m : Me
   whole r (none b w x) = past-refused r (w .past) (stuck b (w .chaining) (w .stuck) x)
   whole r (own w) = past-refused r (w .past) (by (w .number) (w .refuses))
   whole r (infinite w x) =
-      past-way (w .past) ∙ settled-state _ _ (w .state) false (gives-found (w .state) (w .gives)) (infinite-where (w .state) (w .infinite)) ∙ ap refusedAnswer x
+      past-way (w .past) ∙ settled-state _ _ (w .given) false (gives-found (w .given) (w .gives)) (infinite-where (w .given .state) (w .infinite)) ∙ ap refusedAnswer x
 
   pub given-why : (r : Refusal) → Why r → RefusedBy limit ev segs n m q r
   given-why r w = ap (λ (a : Answer). a .way) (whole r w) ∙ way-refused r
@@ -256,7 +284,7 @@ module _ (limit : ℕ) (ev : Evaluation) (segs : List Segment) (n : ℕ) (m : Me
   past-why : (r : Refusal) → Open limit n q → answerTo (found) .way ≡ ways.Refused r → Why r
   unfolding choice
   past-why r o h =
-      ⊎-elim (λ p. of (found-why r p)) (λ p. infinite (record { past = o; state = p .0; gives = found-gives (p .0) (p .1); infinite = infinite-only (p .0) (p .2) }) (p .3))
+      ⊎-elim (λ p. of (found-why r p)) (λ p. infinite (record { past = o; given = p .0; gives = found-gives (p .0) (p .1); infinite = infinite-only (p .0 .state) (p .2) }) (p .3))
       (settled-why _ _ r (way-open ev segs n q choice) h)
     where
       of : Found-why r → Why r
@@ -279,6 +307,12 @@ module _ (limit : ℕ) (ev : Evaluation) (segs : List Segment) (n : ℕ) (m : Me
     where
       from : {a : Asked} → asked limit ev segs n m q ≡ a → a .answer .way ≡ ways.Refused r
       from e = ap (λ (x : Asked). x .answer .way) (sym e) ∙ h
+
+  -- **answered-gives**: an answer past the first three tests that is no refusal holds the state that was given, in the frame of the segments that gave it
+  pub answered-gives : Open limit n q → isRefused (answer limit ev segs n m q .way) ≡ false → Gives limit ev segs n m q (answer limit ev segs n m q .given)
+  answered-gives o h =
+      let w = settled-gives (found .way) (found .result) (ap (λ (a : Answer). isRefused (a .way)) (sym (past-way o)) ∙ h) in
+      found-gives _ (w .1 ∙ ap yielded.Given (sym (w .2) ∙ ap (λ (a : Answer). a .given) (sym (past-way o))))
 
   -- **refused-zeros**: with a refusal stand six zeros and no segment
   pub refused-zeros : (r : Refusal) → RefusedBy limit ev segs n m q r → answer limit ev segs n m q ≡ refusedAnswer r

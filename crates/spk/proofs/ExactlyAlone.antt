@@ -17,7 +17,9 @@ use Rattle.refusal.specs.Numbers.{numberOf}
 use Rattle.segment.specs.declared.Segment.{Segment}
 use Rattle.segment.specs.declared.Evaluated.the-variants as evaluation
 use Rattle.table.specs.Segments.{seg}
-use Rattle.chain.specs.Step.{Evaluation}
+use Rattle.frame.specs.declared.Given.{Given}
+use Rattle.frame.specs.State.{finiteState}
+use Rattle.chain.specs.Step.{Evaluation, givenBy, yieldOf}
 use Rattle.chain.specs.When.{isOwn, OwnOnly}
 use Rattle.chain.proofs.Ends.{clash}
 use Rattle.spk.specs.declared.Way.the-variants as ways
@@ -28,7 +30,7 @@ use Rattle.spk.specs.When.{is12or13, AloneNumber, AloneBy, Evaluates, Al
 use Rattle.spk.proofs.Settling.{settled-refused, settled-state}
 use Rattle.spk.proofs.Single.{alone-unfit, alone-nan, alone-none, alone-some}
 use Rattle.frame.proofs.Finite.{infinite-where, infinite-only}
-use Rattle.spk.proofs.Exactly.{way-refused, answer-refused, settled-why, own-within}
+use Rattle.spk.proofs.Exactly.{way-refused, answer-refused, settled-why, yield-why, yield-gives, own-within}
 
 module _ (limit : ℕ) (ev : Evaluation) (segs : List Segment) (n i : ℕ) (et : Float) where
   -- which test a refusal comes from
@@ -42,16 +44,16 @@ module _ (limit : ℕ) (ev : Evaluation) (segs : List Segment) (n i : ℕ) (et :
   why : (r : Refusal) → AloneBy limit ev segs n i et r → Why r
   why r h =
       elim (decLt limit n) [
-        | yes l ↦ over l (from TableUnfit (alone-unfit limit ev segs n i et l))
+        | yes l ↦ over l (from TableUnfit (alone-unfit limit ev n i et (seg segs i) l))
         | no g ↦
             let le : n ≤ limit = omega arith in
-            by-test (isNan et) (λ d. nan (record { fits = le; nan = d }) (from EpochNan (alone-nan limit ev segs n i et le d)))
+            by-test (isNan et) (λ d. nan (record { fits = le; nan = d }) (from EpochNan (alone-nan limit ev n i et (seg segs i) le d)))
             (λ d.
             elim (decLt i n) [
               | yes b ↦ inside le d b
               | no b ↦
                   let far : n ≤ i = omega arith in
-                  none (record { past = record { fits = le; number = d }; none = far }) (from NoSegment (alone-none limit ev segs n i et le d far))
+                  none (record { past = record { fits = le; number = d }; none = far }) (from NoSegment (alone-none limit ev n i et (seg segs i) le d far))
             ])
       ]
     where
@@ -61,18 +63,20 @@ module _ (limit : ℕ) (ev : Evaluation) (segs : List Segment) (n i : ℕ) (et :
       inside : n ≤ limit → isNan et ≡ false → i < n → Why r
       inside le d b =
           let past : Evaluates limit ev segs n i et = record { past = record { fits = le; number = d }; below = b } in
-          ⊎-elim (λ p. own (record { past = past; given = p }))
-          (λ p. infinite (record { past = past; state = p .0; given = p .1; infinite = infinite-only (p .0) (p .2) }) (p .3))
-          (settled-why (ways.Forward i) (ev (seg segs i) i et) r refl (ap (λ (a : Answer). a .way) (sym (alone-some limit ev segs n i et le d b)) ∙ h))
+          ⊎-elim (λ p. own (record { past = past; given = yield-why (seg segs i) _ r p }))
+          (λ p.
+          let v = yield-gives (seg segs i) (ev (seg segs i) i et) (p .0) (p .1) in
+          infinite (record { past = past; state = v .0; given = v .1; infinite = infinite-only (v .0) (ap (λ (g : Given). finiteState (g .state)) (v .2) ∙ p .2) }) (p .3))
+          (settled-why (ways.Forward i) (yieldOf (seg segs i) (ev (seg segs i) i et)) r refl (ap (λ (a : Answer). a .way) (sym (alone-some limit ev n i et (seg segs i) le d b)) ∙ h))
 
   whole : (r : Refusal) → Why r → aloneAnswer limit ev segs n i et ≡ refusedAnswer r
-  whole r (over l x) = alone-unfit limit ev segs n i et l ∙ ap refusedAnswer x
-  whole r (nan w x) = alone-nan limit ev segs n i et (w .fits) (w .nan) ∙ ap refusedAnswer x
-  whole r (none w x) = alone-none limit ev segs n i et (w .past .fits) (w .past .number) (w .none) ∙ ap refusedAnswer x
-  whole r (own w) = alone-some limit ev segs n i et (w .past .past .fits) (w .past .past .number) (w .past .below) ∙ settled-refused _ _ r (w .given)
+  whole r (over l x) = alone-unfit limit ev n i et (seg segs i) l ∙ ap refusedAnswer x
+  whole r (nan w x) = alone-nan limit ev n i et (seg segs i) (w .fits) (w .nan) ∙ ap refusedAnswer x
+  whole r (none w x) = alone-none limit ev n i et (seg segs i) (w .past .fits) (w .past .number) (w .none) ∙ ap refusedAnswer x
+  whole r (own w) = alone-some limit ev n i et (seg segs i) (w .past .past .fits) (w .past .past .number) (w .past .below) ∙ settled-refused _ _ r (ap (yieldOf (seg segs i)) (w .given))
   whole r (infinite w x) =
-      alone-some limit ev segs n i et (w .past .past .fits) (w .past .past .number) (w .past .below)
-      ∙ settled-state _ _ (w .state) false (w .given) (infinite-where (w .state) (w .infinite))
+      alone-some limit ev n i et (seg segs i) (w .past .past .fits) (w .past .past .number) (w .past .below)
+      ∙ settled-state _ _ (givenBy (seg segs i) (w .state)) false (ap (yieldOf (seg segs i)) (w .given)) (infinite-where (w .state) (w .infinite))
       ∙ ap refusedAnswer x
 
   given-why : (r : Refusal) → Why r → AloneBy limit ev segs n i et r

@@ -1,26 +1,26 @@
 -- Laws of the definitions of `Finding`: one for each way through the code, and that what is found so is what `Asking` and `Alone` define. Assumes nothing.
 use mathlib.Core.Path.{_≡_, refl, sym, ap, ap₂, _∙_}
 use mathlib.Core.Bool.{Bool, true, false, cond, _&&_, _||_, false≢true}
-use mathlib.Core.List.{List, []}
+use mathlib.Core.List.{List}
 use Prim.Native.Nat.{ℕ, _≤_, _<_}
 use native.Mathlib.Omega.{arith}
 use lib.Dec.{ltb, leb}
 use lib.Ieee.{isNan, Float}
 use borrow.Author.Tests.{lt-ltb, le-ltb, ltb-true, ltb-false, leb-true, leb-false}
 use Rattle.bits.proofs.Tests.{by-test, or-first, or-second}
-use Rattle.frame.specs.declared.State.{State}
+use Rattle.frame.specs.declared.Given.{Given}
 use Rattle.refusal.specs.declared.Refusal.{Refusal}
 use Rattle.refusal.specs.declared.Refusal.the-variants.{TableUnfit, EpochNan}
 use Rattle.segment.specs.declared.Segment.{Segment}
-use Rattle.segment.specs.declared.Evaluated.{Evaluated}
-use Rattle.segment.specs.declared.Evaluated.the-variants as evaluation
 use Rattle.table.specs.declared.Choice.{Choice}
 use Rattle.table.specs.declared.Choice.the-variants.{At, Nothing}
 use Rattle.table.specs.Segments.{seg, emptySegment}
 use Rattle.table.specs.Steps.{segOr, placeIn, Within, counted}
 use Rattle.table.specs.Choosing.{lastIn, orElse}
 use Rattle.table.proofs.Last.{last-chosen}
-use Rattle.chain.specs.Step.{Evaluation}
+use Rattle.chain.specs.declared.Yielded.{Yielded}
+use Rattle.chain.specs.declared.Yielded.the-variants as yielded
+use Rattle.chain.specs.Step.{Evaluation, yieldOf}
 use Rattle.chain.specs.Walk.{chainLimit}
 use Rattle.chain.specs.Steps.{begin}
 use Rattle.spk.specs.declared.Question.{Question}
@@ -34,9 +34,9 @@ use Rattle.spk.specs.Choosing.{recall, lastForward, lastReversed, forwar
 use Rattle.spk.specs.Answers.{refusedAnswer, sameAnswer, settled, negatedOf, lessOf, differenceOf}
 use Rattle.spk.specs.Asking.{legFrom, chained, backward, foundBy, answerTo, asked}
 use Rattle.spk.proofs.Order.{asked-same, asked-unfit, asked-nan, asked-by}
-use Rattle.spk.specs.Steps.{placeKept, recalledBy, isFailed, isEarly, earlyAnswer, aloneWith}
-use Rattle.spk.specs.Alone.{aloneAnswer}
-use Rattle.spk.proofs.Single.{alone-unfit, alone-nan, alone-none, alone-some}
+use Rattle.spk.specs.Steps.{placeKept, recalledBy, isFailed, isEarly, earlyAnswer}
+use Rattle.spk.specs.Alone.{aloneWith, aloneAnswer}
+use Rattle.spk.proofs.Single.{alone-unfit, alone-nan, alone-none}
 use Rattle.table.proofs.Limits.{counted-all}
 use Rattle.table.proofs.Choices.{or-yes, within-chosen}
 use Rattle.chain.proofs.Walks.{ahead, begin-told}
@@ -106,10 +106,10 @@ module _ (segs : List Segment) (n : ℕ) (q : Question) where
       go false = refl
 
 -- ---- the chain
-pub failed-first : (a b : Evaluated) → isFailed a ≡ true → a ≡ differenceOf a b
+pub failed-first : (a b : Yielded) → isFailed a ≡ true → a ≡ differenceOf a b
 unfolding differenceOf
-failed-first (evaluation.Refused r) b e = refl
-failed-first (evaluation.State s) b e = absurd (false≢true e)
+failed-first (yielded.Refused r) b e = refl
+failed-first (yielded.Given g) b e = absurd (false≢true e)
 
 module _ (ev : Evaluation) (segs : List Segment) (n : ℕ) where
   pub chain-told : (q : Question) → differenceOf (ahead ev segs n chainLimit (begin (legFrom q))) (ahead ev segs n chainLimit (begin (legFrom (swapped q)))) ≡ chained ev segs n q
@@ -170,7 +170,7 @@ module _ (ev : Evaluation) (segs : List Segment) (n : ℕ) (q : Question) where
   back = lastIn (hits (swapped q)) segs n
 
   -- reversed
-  pub back-at : placeIn back n < n → let i = placeIn back n in settled (Reversed i) (negatedOf (ev (seg segs i) i (q .et))) ≡ answerTo (backward ev segs n q (lastReversed segs n q))
+  pub back-at : placeIn back n < n → let i = placeIn back n in settled (Reversed i) (negatedOf (yieldOf (seg segs i) (ev (seg segs i) i (q .et)))) ≡ answerTo (backward ev segs n q (lastReversed segs n q))
   back-at l = sym (ap (λ (c : Choice). answerTo (backward ev segs n q c)) (at-place n back l))
 
   -- chained
@@ -206,7 +206,7 @@ module _ (limit : ℕ) (ev : Evaluation) (segs : List Segment) (n : ℕ) (m : Me
 
   -- forward
   pub asked-at : isEarly limit n q ≡ false → let i = placeIn (forwardIn segs n m q) n in i < n
-      → record { answer = settled (Forward i) (ev (seg segs i) i (q .et)); memory = rememberedAt m i (seg segs i) } ≡ asked limit ev segs n m q
+      → record { answer = settled (Forward i) (yieldOf (seg segs i) (ev (seg segs i) i (q .et))); memory = rememberedAt m i (seg segs i) } ≡ asked limit ev segs n m q
   asked-at e l = late e (At (placeIn (forwardIn segs n m q) n)) (at-place n (forwardIn segs n m q) l)
 
   -- backward
@@ -217,13 +217,13 @@ module _ (limit : ℕ) (ev : Evaluation) (segs : List Segment) (n : ℕ) (m : Me
 pub with-memory-as : {r : Asked} {x y : Answer} {m : Memory} → r ≡ record { answer = x; memory = m } → x ≡ y → r ≡ record { answer = y; memory = m }
 with-memory-as {m = m} e f = e ∙ ap (λ (z : Answer). record { answer = z; memory = m }) f
 
-pub difference-refused : (a b : Evaluated) (r : Refusal) → a ≡ evaluation.Refused r → evaluation.Refused r ≡ differenceOf a b
+pub difference-refused : (a b : Yielded) (r : Refusal) → a ≡ yielded.Refused r → yielded.Refused r ≡ differenceOf a b
 unfolding differenceOf
-difference-refused a b r e = sym (ap (λ (x : Evaluated). differenceOf x b) e)
+difference-refused a b r e = sym (ap (λ (x : Yielded). differenceOf x b) e)
 
-pub difference-state : (a b : Evaluated) (s : State) → a ≡ evaluation.State s → lessOf s b ≡ differenceOf a b
+pub difference-state : (a b : Yielded) (g : Given) → a ≡ yielded.Given g → lessOf g b ≡ differenceOf a b
 unfolding differenceOf
-difference-state a b s e = sym (ap (λ (x : Evaluated). differenceOf x b) e)
+difference-state a b g e = sym (ap (λ (x : Yielded). differenceOf x b) e)
 
 -- ---- a segment by its number
 module _ (limit : ℕ) (ev : Evaluation) (segs : List Segment) (n i : ℕ) (et : Float) where
@@ -236,9 +236,8 @@ module _ (limit : ℕ) (ev : Evaluation) (segs : List Segment) (n i : ℕ) (et :
 
   pub alone-told : aloneWith limit ev n i et s ≡ aloneAnswer limit ev segs n i et
   alone-told =
-      by-test (ltb limit n) (λ over. alone-unfit limit (λ _. ev s) [] n i et (ltb-true limit n over) ∙ sym (alone-unfit limit ev segs n i et (ltb-true limit n over)))
+      by-test (ltb limit n) (λ over. alone-unfit limit ev n i et s (ltb-true limit n over) ∙ sym (alone-unfit limit ev n i et (seg segs i) (ltb-true limit n over)))
       (λ fits. let l : n ≤ limit = ltb-false limit n fits in
-      by-test (isNan et) (λ nan. alone-nan limit (λ _. ev s) [] n i et l nan ∙ sym (alone-nan limit ev segs n i et l nan))
-      (λ num. by-test (leb n i) (λ past. alone-none limit (λ _. ev s) [] n i et l num (leb-true n i past) ∙ sym (alone-none limit ev segs n i et l num (leb-true n i past)))
-      (λ below. let h : i < n = leb-false n i below in
-      alone-some limit (λ _. ev s) [] n i et l num h ∙ ap (λ (x : Segment). settled (Forward i) (ev x i et)) (same l h) ∙ sym (alone-some limit ev segs n i et l num h))))
+      by-test (isNan et) (λ nan. alone-nan limit ev n i et s l nan ∙ sym (alone-nan limit ev n i et (seg segs i) l nan))
+      (λ num. by-test (leb n i) (λ past. alone-none limit ev n i et s l num (leb-true n i past) ∙ sym (alone-none limit ev n i et (seg segs i) l num (leb-true n i past)))
+      (λ below. ap (aloneWith limit ev n i et) (same l (leb-false n i below)))))

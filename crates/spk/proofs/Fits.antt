@@ -21,5 +21,5 @@ pub replied-never-14 : (limit : ℕ) (ev : Evaluation) (segs : List Segment) (n 
     → replied limit ev segs n m a .answer .way ≡ ways.Refused TableUnfit → ⊥
 replied-never-14 limit ev segs n le fit m (Plain q) = never-14 limit ev segs n m q le fit
 replied-never-14 limit ev segs n le fit m (InFrame q wanted rot) =
-    in-never limit ev segs n m q rot wanted TableUnfit (λ e. clash (cc)) (never-14 limit ev segs n m q le fit)
+    in-never limit ev segs n m q rot wanted TableUnfit (λ e. clash (cc), λ e. clash (cc)) (never-14 limit ev segs n m q le fit)
 replied-never-14 limit ev segs n le fit m (Single i et) = alone-never-14 limit ev segs n i et le fit

@@ -1,7 +1,7 @@
 -- The theorems at the evaluation that the contracts name, `evaluated Spk k` of a kernel k: its refusals are 12, 13 and 14, and it depends on the
 -- segment's own doubles alone.
 --     state-10, state-11, state-own, state-14, state-15    exactly when `state` is refused with 10; 11 for a body; 12 and 13; 14; 15
---     framed-10, .., framed-15                  the same of `state_in`
+--     framed-10, .., framed-15, framed-21       the same of `state_in`
 --     single-10, single-own, single-14, single-15, single-17    the same of `alone`
 --     state-other, framed-other, single-other   no other number is given
 --     state-zeros, framed-zeros, single-zeros   with a refusal stand six zeros and no segment
@@ -17,7 +17,7 @@ use mathlib.Core.List.{List}
 use lib.Ieee.{Float}
 use lib.IntN.{ℤ, natAbs}
 use Rattle.refusal.specs.declared.Refusal.{Refusal}
-use Rattle.refusal.specs.declared.Refusal.the-variants.{EpochNan, NoCoverage, TableUnfit, NotFinite, NoSegment}
+use Rattle.refusal.specs.declared.Refusal.the-variants.{EpochNan, NoCoverage, TableUnfit, NotFinite, NoSegment, OtherFrame}
 use Rattle.refusal.specs.Numbers.{numberOf}
 use Rattle.frame.specs.Frame.{Matrix}
 use Rattle.refusal.specs.Order.{First, given}
@@ -41,9 +41,9 @@ use Rattle.spk.specs.Answers.{refusedAnswer}
 use Rattle.spk.specs.Turning.{askedIn}
 use Rattle.spk.specs.Asking.{asked}
 use Rattle.spk.specs.Alone.{aloneAnswer}
-use Rattle.spk.specs.When.{is12or13, answer, RefusedBy, When10, When11, WhenOwn, When14, When15, RefusedInBy, When15Turned, AloneNumber, AloneBy, Alone10, Alone17, AloneOwn, Alone14, Alone15}
+use Rattle.spk.specs.When.{is12or13, answer, RefusedBy, When10, When11, WhenOwn, When14, When15, RefusedInBy, InNumber, When21, When15Turned, AloneNumber, AloneBy, Alone10, Alone17, AloneOwn, Alone14, Alone15}
 use Rattle.spk.proofs.Exactly.{exactly-10, exactly-11, exactly-own, exactly-14, exactly-15, no-other, refused-zeros}
-use Rattle.spk.proofs.ExactlyIn.{in-carried, in-15, in-other, in-zeros}
+use Rattle.spk.proofs.ExactlyIn.{in-carried, in-15, in-21, in-other, in-zeros}
 use Rattle.spk.proofs.ExactlyAlone.{alone-10, alone-own, alone-14, alone-15, alone-17, alone-other, alone-zeros}
 use Rattle.spk.specs.Runs.{Asking, replied}
 use Rattle.spk.specs.Touched.{TouchedReplied}
@@ -98,21 +98,24 @@ module _ (k : List ℕ) (limit : ℕ) (segs : List Segment) (n : ℕ) where
       In r = RefusedInBy limit ev segs n m q wanted rot r
 
       pub framed-10 : When10 limit ev segs n m q ↔ In EpochNan
-      framed-10 = in-carried limit ev segs n m q rot wanted EpochNan (λ e. clash (cc)) state-10
+      framed-10 = in-carried limit ev segs n m q rot wanted EpochNan (λ e. clash (cc), λ e. clash (cc)) state-10
 
       pub framed-11 : (b : ℤ) → When11 limit ev segs n m q b ↔ In (NoCoverage b)
-      framed-11 b = in-carried limit ev segs n m q rot wanted (NoCoverage b) (λ e. clash (cc)) (state-11 b)
+      framed-11 b = in-carried limit ev segs n m q rot wanted (NoCoverage b) (λ e. clash (cc), λ e. clash (cc)) (state-11 b)
 
       pub framed-own : (r : Refusal) → is12or13 r ≡ true → WhenOwn limit ev segs n m q r ↔ In r
-      framed-own r t = in-carried limit ev segs n m q rot wanted r (λ e. true≢false (sym t ∙ ap is12or13 (sym e))) (state-own r t)
+      framed-own r t = in-carried limit ev segs n m q rot wanted r (λ e. true≢false (sym t ∙ ap is12or13 (sym e)), λ e. true≢false (sym t ∙ ap is12or13 (sym e))) (state-own r t)
 
       pub framed-14 : When14 limit ev segs n m q ↔ In TableUnfit
-      framed-14 = in-carried limit ev segs n m q rot wanted TableUnfit (λ e. clash (cc)) state-14
+      framed-14 = in-carried limit ev segs n m q rot wanted TableUnfit (λ e. clash (cc), λ e. clash (cc)) state-14
 
       pub framed-15 : When15 limit ev segs n m q ⊎ When15Turned limit ev segs n m q wanted rot ↔ In NotFinite
       framed-15 = in-15 limit ev segs n m q rot wanted (own-only k)
 
-      pub framed-other : (r : Refusal) → In r → (10 ≤ numberOf r) × (numberOf r ≤ 15)
+      pub framed-21 : When21 limit ev segs n m q wanted rot ↔ In OtherFrame
+      framed-21 = in-21 limit ev segs n m q rot wanted (own-only k)
+
+      pub framed-other : (r : Refusal) → In r → InNumber (numberOf r)
       framed-other = in-other limit ev segs n m q rot wanted (own-only k)
 
       pub framed-zeros : (r : Refusal) → In r → askedIn limit ev segs n m q wanted rot .answer ≡ refusedAnswer r
@@ -166,4 +169,4 @@ module _ (k k' : List ℕ) (limit : ℕ) (segs : List Segment) (n : ℕ) where
 
   pub bytes-alone : (i : ℕ) (et : Float) → AgreesAt k k' segs i
       → aloneAnswer limit (evaluated Spk k) segs n i et ≡ aloneAnswer limit (evaluated Spk k') segs n i et
-  bytes-alone i et g = own-alone _ _ _ _ _ i et (λ e. alike i g)
+  bytes-alone i et g = own-alone limit _ _ segs n i et (λ e. alike i g)

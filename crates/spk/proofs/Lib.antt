@@ -1,4 +1,5 @@
 -- Laws that belong to no one function.
+pub mod Before
 pub mod Cases
 pub mod Exactly
 pub mod ExactlyAlone
@@ -6,6 +7,7 @@ pub mod ExactlyIn
 pub mod Finding
 pub mod Fits
 pub mod Forged
+pub mod Frames
 pub mod InKernel
 pub mod NoMemory
 pub mod Order

@@ -14,19 +14,25 @@ use mathlib.Core.List.{List, [], _∷_}
 use native.Mathlib.Omega.{arith}
 use native.Mathlib.Decide.{decLt}
 use lib.Dec.{ltb}
+use lib.IntN.{ℤ}
 use lib.Ieee.{Float, isNan}
 use Rattle.bits.proofs.Tests.{by-test}
 use Rattle.frame.specs.State.{finiteState}
 use Rattle.frame.specs.Frame.{Matrix}
+use Rattle.frame.specs.Framed.{turnOf}
+use Rattle.frame.specs.declared.Turn.{Turn}
+use Rattle.frame.specs.declared.Turn.the-variants.{Stands, Forth, Back, Never}
 use Rattle.refusal.specs.declared.Refusal.{Refusal}
-use Rattle.refusal.specs.declared.Refusal.the-variants.{TableUnfit, EpochNan, NotFinite}
+use Rattle.refusal.specs.declared.Refusal.the-variants.{TableUnfit, EpochNan, NotFinite, OtherFrame}
 use Rattle.refusal.specs.Order.{case, firstOf}
 use Rattle.segment.specs.declared.Segment.{Segment}
 use Rattle.segment.specs.declared.Evaluated.{Evaluated}
-use Rattle.segment.specs.declared.Evaluated.the-variants as evaluation
+use Rattle.table.specs.Segments.{seg}
 use Rattle.table.specs.declared.Choice.{Choice}
 use Rattle.table.specs.declared.Choice.the-variants.{At, Nothing}
-use Rattle.chain.specs.Step.{Evaluation}
+use Rattle.chain.specs.declared.Yielded.{Yielded}
+use Rattle.chain.specs.declared.Yielded.the-variants as yielded
+use Rattle.chain.specs.Step.{Evaluation, yieldOf}
 use Rattle.chain.specs.Walk.{chainLimit, toZero}
 use Rattle.chain.proofs.Ends.{clash}
 use Rattle.chain.proofs.Own.{Alike, touched-on, zero-alike}
@@ -42,12 +48,13 @@ use Rattle.spk.specs.Questions.{isSame, swapped}
 use Rattle.spk.specs.Choosing.{lastReversed, forwardIn, remembered}
 use Rattle.spk.specs.Answers.{answerOf, refusedAnswer, sameAnswer, settled, negatedOf, differenceOf}
 use Rattle.spk.specs.Asking.{Found, legFrom, chained, backward, foundBy, answerTo, askedBy, asked}
-use Rattle.spk.specs.Turning.{isRefused, turnedAnswer, turnedAsked}
+use Rattle.spk.specs.Turning.{frameOf, isRefused, turnedBy, turnedAnswer, turnedAsked}
 use Rattle.spk.specs.Alone.{aloneAnswer}
 use Rattle.spk.specs.Runs.{Asking, Plain, InFrame, Single, replied}
-use Rattle.spk.specs.When.{Evaluates}
+use Rattle.spk.specs.When.{Open, Evaluates}
 use Rattle.spk.specs.Touched.{TouchedChain, touchedBack, touchedBy, Touched, TouchedReplied}
 use Rattle.spk.proofs.Single.{turned-by, alone-unfit, alone-nan, alone-none, alone-some}
+use Rattle.spk.proofs.Exactly.{way-refused}
 use Rattle.spk.proofs.Order.{asked-same, asked-unfit, asked-nan, asked-choice}
 
 -- ---- an answer that names a segment was given by it
@@ -58,6 +65,13 @@ byState (ways.Forward i) = true
 byState (ways.Reversed i) = true
 byState ways.Chained = true
 byState (ways.Refused r) = false
+
+pub by-state-open : (w : Way) → byState w ≡ true → isRefused w ≡ false
+by-state-open ways.Same t = refl
+by-state-open (ways.Forward i) t = refl
+by-state-open (ways.Reversed i) t = refl
+by-state-open ways.Chained t = refl
+by-state-open (ways.Refused r) t = sym t
 
 same-no : byState (sameAnswer .way) ≡ false
 unfolding sameAnswer
@@ -71,34 +85,41 @@ refused-no r = refl
 not-by : {X : Type 0} (a : Answer) (w : Way) → byState (a .way) ≡ false → byState w ≡ true → a .way ≡ w → X
 not-by a w f t e = absurd (true≢false (sym t ∙ ap byState (sym e) ∙ f))
 
-settled-way : (way : Way) (e : Evaluated) (w : Way) → byState w ≡ true → settled way e .way ≡ w → way ≡ w
+settled-way : (way : Way) (e : Yielded) (w : Way) → byState w ≡ true → settled way e .way ≡ w → way ≡ w
 unfolding settled
-settled-way way (evaluation.Refused r) w t h = not-by (refusedAnswer r) w (refused-no r) t h
-settled-way way (evaluation.State s) w t h = go (finiteState s) h
+settled-way way (yielded.Refused r) w t h = not-by (refusedAnswer r) w (refused-no r) t h
+settled-way way (yielded.Given g) w t h = go (finiteState (g .state)) h
   where
-    go : (b : Bool) → cond b (answerOf way s) (refusedAnswer NotFinite) .way ≡ w → way ≡ w
+    go : (b : Bool) → cond b (answerOf way g) (refusedAnswer NotFinite) .way ≡ w → way ≡ w
     go true e = e
     go false e = not-by (refusedAnswer NotFinite) w (refused-no NotFinite) t e
 
 module _ (limit : ℕ) (ev : Evaluation) (segs : List Segment) (n : ℕ) (m : Memory) (q : Question) where
-  named : (w : Way) → byState w ≡ true → asked limit ev segs n m q .answer .way ≡ w → foundBy ev segs n q (forwardIn segs n m q) .way ≡ w
-  named w t h =
-      by-test (isSame q) (λ e. not-by sameAnswer w same-no t (from (asked-same limit ev segs n m q choice e)))
-      (λ e.
+  -- an answer that is no refusal, of two bodies, is past the first three tests
+  pub open-answered : isSame q ≡ false → isRefused (asked limit ev segs n m q .answer .way) ≡ false → Open limit n q
+  open-answered e h =
       elim (decLt limit n) [
-        | yes l ↦ not-by (refusedAnswer TableUnfit) w (refused-no TableUnfit) t (from (asked-unfit limit ev segs n m q choice e l))
+        | yes l ↦ refused TableUnfit (asked-unfit limit ev segs n m q (forwardIn segs n m q) e l)
         | no g ↦
             let le : n ≤ limit = omega arith in
-            by-test (isNan (q .et))
-            (λ d. not-by (refusedAnswer EpochNan) w (refused-no EpochNan) t (from (asked-nan limit ev segs n m q choice e le d)))
-            (λ d. settled-way _ _ w t (from (asked-choice limit ev segs n m q choice e le d)))
-      ])
+            by-test (isNan (q .et)) (λ d. refused EpochNan (asked-nan limit ev segs n m q (forwardIn segs n m q) e le d)) (λ d. record { other = e; fits = le; number = d })
+      ]
     where
-      choice : Choice
-      choice = forwardIn segs n m q
+      refused : (r : Refusal) → asked limit ev segs n m q ≡ record { answer = refusedAnswer r; memory = m } → Open limit n q
+      refused r x = absurd (true≢false (sym (ap isRefused (ap (λ (a : Asked). a .answer .way) x ∙ way-refused r)) ∙ h))
 
-      from : {a : Asked} → asked limit ev segs n m q ≡ a → a .answer .way ≡ w
-      from e = ap (λ (x : Asked). x .answer .way) (sym e) ∙ h
+  -- so is one that names a segment or is chained
+  pub open-by : (w : Way) → byState w ≡ true → asked limit ev segs n m q .answer .way ≡ w → Open limit n q
+  open-by w t h =
+      open-answered
+      (by-test (isSame q)
+      (λ e. not-by sameAnswer w same-no t (ap (λ (a : Asked). a .answer .way) (sym (asked-same limit ev segs n m q (forwardIn segs n m q) e)) ∙ h)) (λ e. e))
+      (ap isRefused h ∙ by-state-open w t)
+
+  named : (w : Way) → byState w ≡ true → asked limit ev segs n m q .answer .way ≡ w → foundBy ev segs n q (forwardIn segs n m q) .way ≡ w
+  named w t h =
+      let o = open-by w t h in
+      settled-way _ _ w t (ap (λ (x : Asked). x .answer .way) (sym (asked-choice limit ev segs n m q (forwardIn segs n m q) (o .other) (o .fits) (o .number))) ∙ h)
 
   pub named-forward : (i : ℕ) → asked limit ev segs n m q .answer .way ≡ ways.Forward i → forwardIn segs n m q ≡ At i
   named-forward i h = go (forwardIn segs n m q) refl (named (ways.Forward i) refl h)
@@ -122,12 +143,30 @@ module _ (limit : ℕ) (ev : Evaluation) (segs : List Segment) (n : ℕ) (m : Me
       go (At j) e w = clash (cc)
       go Nothing e w = (e, back (lastReversed segs n q) refl w)
 
+  pub named-chained : asked limit ev segs n m q .answer .way ≡ ways.Chained → (forwardIn segs n m q ≡ Nothing) × (lastReversed segs n q ≡ Nothing)
+  named-chained h = go (forwardIn segs n m q) refl (named ways.Chained refl h)
+    where
+      back : (c : Choice) → lastReversed segs n q ≡ c → backward ev segs n q c .way ≡ ways.Chained → lastReversed segs n q ≡ Nothing
+      back (At j) e w = clash (cc)
+      back Nothing e w = e
+
+      go : (c : Choice) → forwardIn segs n m q ≡ c → foundBy ev segs n q c .way ≡ ways.Chained → (forwardIn segs n m q ≡ Nothing) × (lastReversed segs n q ≡ Nothing)
+      go (At j) e w = clash (cc)
+      go Nothing e w = (e, back (lastReversed segs n q) refl w)
+
+by-way : (to : ℤ) (rot : Matrix) (a : Answer) (w : Way) (turn : Turn) → byState w ≡ true → turnedBy turn to rot a .way ≡ w → a .way ≡ w
+unfolding turnedBy
+by-way to rot a w Stands t h = h
+by-way to rot a w Forth t h = settled-way (a .way) _ w t h
+by-way to rot a w Back t h = settled-way (a .way) _ w t h
+by-way to rot a w Never t h = not-by (refusedAnswer OtherFrame) w (refused-no OtherFrame) t h
+
 -- turning an answer that is none of these leaves its way
 pub turned-way : (wanted : Wanted) (rot : Matrix) (a : Answer) (w : Way) → byState w ≡ true → turnedAnswer wanted rot a .way ≡ w → a .way ≡ w
 turned-way AsItStands rot a w t h = h
 turned-way (In to) rot a w t h =
     by-test (isRefused (a .way)) (λ e. ap (λ (x : Answer). x .way) (sym (turned-by to rot a true e)) ∙ h)
-    (λ e. settled-way (a .way) _ w t (ap (λ (x : Answer). x .way) (sym (turned-by to rot a false e)) ∙ h))
+    (λ e. by-way to rot a w (turnOf (frameOf a) to) t (ap (λ (x : Answer). x .way) (sym (turned-by to rot a false e)) ∙ h))
 
 -- ---- what holds of the segments that a question evaluates, and implies something, makes that hold of them
 module _ (limit : ℕ) (ev : Evaluation) (segs : List Segment) (n : ℕ) (m : Memory) (q : Question) (P Q : ℕ → Type 0) (f : (i : ℕ) → P i → Q i) where
@@ -168,19 +207,19 @@ module _ (limit : ℕ) (ev ev' : Evaluation) (segs : List Segment) (n : ℕ) (m 
       target : toZero ev segs n (legFrom q) ≡ toZero ev' segs n (legFrom q)
       target = zero-alike ev ev' segs n (legFrom q) (t .target)
 
-      go : (e : Evaluated) → toZero ev segs n (legFrom q) ≡ e
+      go : (e : Yielded) → toZero ev segs n (legFrom q) ≡ e
           → differenceOf (toZero ev segs n (legFrom q)) (toZero ev segs n (legFrom (swapped q))) ≡ differenceOf (toZero ev' segs n (legFrom q)) (toZero ev' segs n (legFrom (swapped q)))
-      go (evaluation.State x) u = ap₂ differenceOf target (zero-alike ev ev' segs n (legFrom (swapped q)) (t .center (x, u)))
-      go (evaluation.Refused r) u =
-          ap (λ (e : Evaluated). differenceOf e (toZero ev segs n (legFrom (swapped q)))) u
-          ∙ ap (λ (e : Evaluated). differenceOf e (toZero ev' segs n (legFrom (swapped q)))) (sym u ∙ target)
+      go (yielded.Given x) u = ap₂ differenceOf target (zero-alike ev ev' segs n (legFrom (swapped q)) (t .center (x, u)))
+      go (yielded.Refused r) u =
+          ap (λ (e : Yielded). differenceOf e (toZero ev segs n (legFrom (swapped q)))) u
+          ∙ ap (λ (e : Yielded). differenceOf e (toZero ev' segs n (legFrom (swapped q)))) (sym u ∙ target)
 
   back-alike : (c : Choice) → touchedBack ev segs n (Alike ev ev' segs) q c → backward ev segs n q c ≡ backward ev' segs n q c
-  back-alike (At i) t = ap (λ (x : Evaluated). record { way = ways.Reversed i; result = negatedOf x }) (t (q .et))
-  back-alike Nothing t = ap (λ (x : Evaluated). record { way = ways.Chained; result = x }) (chain-alike t)
+  back-alike (At i) t = ap (λ (x : Evaluated). record { way = ways.Reversed i; result = negatedOf (yieldOf (seg segs i) x) }) (t (q .et))
+  back-alike Nothing t = ap (λ (x : Yielded). record { way = ways.Chained; result = x }) (chain-alike t)
 
   found-alike : (c : Choice) → touchedBy ev segs n (Alike ev ev' segs) q c → foundBy ev segs n q c ≡ foundBy ev' segs n q c
-  found-alike (At i) t = ap (λ (x : Evaluated). record { way = ways.Forward i; result = x }) (t (q .et))
+  found-alike (At i) t = ap (λ (x : Evaluated). record { way = ways.Forward i; result = yieldOf (seg segs i) x }) (t (q .et))
   found-alike Nothing t = back-alike (lastReversed segs n q) t
 
   -- any question, by the segments that it evaluates
@@ -217,19 +256,19 @@ pub own-alone : (limit : ℕ) (ev ev' : Evaluation) (segs : List Segment) (n i :
     → aloneAnswer limit ev segs n i et ≡ aloneAnswer limit ev' segs n i et
 own-alone limit ev ev' segs n i et t =
     elim (decLt limit n) [
-      | yes l ↦ alone-unfit limit ev segs n i et l ∙ sym (alone-unfit limit ev' segs n i et l)
+      | yes l ↦ alone-unfit limit ev n i et (seg segs i) l ∙ sym (alone-unfit limit ev' n i et (seg segs i) l)
       | no g ↦
           let le : n ≤ limit = omega arith in
-          by-test (isNan et) (λ d. alone-nan limit ev segs n i et le d ∙ sym (alone-nan limit ev' segs n i et le d))
+          by-test (isNan et) (λ d. alone-nan limit ev n i et (seg segs i) le d ∙ sym (alone-nan limit ev' n i et (seg segs i) le d))
           (λ d.
           elim (decLt i n) [
             | yes b ↦
-                alone-some limit ev segs n i et le d b
-                ∙ ap (settled (ways.Forward i)) (t (record { past = record { fits = le; number = d }; below = b }) et)
-                ∙ sym (alone-some limit ev' segs n i et le d b)
+                alone-some limit ev n i et (seg segs i) le d b
+                ∙ ap (λ (e : Evaluated). settled (ways.Forward i) (yieldOf (seg segs i) e)) (t (record { past = record { fits = le; number = d }; below = b }) et)
+                ∙ sym (alone-some limit ev' n i et (seg segs i) le d b)
             | no b ↦
                 let far : n ≤ i = omega arith in
-                alone-none limit ev segs n i et le d far ∙ sym (alone-none limit ev' segs n i et le d far)
+                alone-none limit ev n i et (seg segs i) le d far ∙ sym (alone-none limit ev' n i et (seg segs i) le d far)
           ])
     ]
 

@@ -35,10 +35,10 @@ way-of Chained = refl
 way-of (Refused r) = ap Refused (refusal-of r)
 
 abbrev answered : Told → Answer
-answered t = answerOf (wayOf (t .way)) (t .six)
+answered t = answerOf (wayOf (t .way)) (record { state = t .six; frame = t .frame })
 
 answer-of : (a : Answer) → answered (answerTold a) ≡ a
-answer-of a = ap (λ (w : Way). answerOf w (a .state)) (way-of (a .way))
+answer-of a = ap (λ (w : Way). answerOf w (a .given)) (way-of (a .way))
 
 pub one-answer : (a a' : Answer) → answerTold a ≡ answerTold a' → a ≡ a'
 one-answer = told-back answerTold answered answer-of

@@ -1,43 +1,45 @@
--- What an answer holds, and how it comes of an evaluation. Assumes nothing: these are definitions.
+-- What an answer holds, and how it comes of what segments gave. Assumes nothing: these are definitions.
 use mathlib.Core.Bool.{cond}
-use Rattle.frame.specs.declared.State.{State}
-use Rattle.frame.specs.State.{zeroState, negatedState, minusState, finiteState}
+use Rattle.frame.specs.declared.Given.{Given}
+use Rattle.frame.specs.State.{zeroState, finiteState}
+use Rattle.frame.specs.Framed.{j2000}
+use Rattle.frame.specs.Given.{nothingGiven, givenOf, negatedGiven, minusGiven}
 use Rattle.refusal.specs.declared.Refusal.{Refusal}
 use Rattle.refusal.specs.declared.Refusal.the-variants.{NotFinite}
-use Rattle.segment.specs.declared.Evaluated.{Evaluated}
-use Rattle.segment.specs.declared.Evaluated.the-variants as evaluation
+use Rattle.chain.specs.declared.Yielded.{Yielded}
+use Rattle.chain.specs.declared.Yielded.the-variants as yielded
 use Rattle.spk.specs.declared.Way.{Way}
 use Rattle.spk.specs.declared.Way.the-variants as ways
 use Rattle.spk.specs.declared.Answer.{Answer}
 
--- Every answer is made here: it names its way, with the segment's number where one alone answers, and holds the state.
-abbrev pub answerOf : Way → State → Answer
-answerOf way state = record { way = way; state = state }
+-- Every answer is made here: it names its way, with the segment's number where one alone answers, and holds the state with what is known of it.
+abbrev pub answerOf : Way → Given → Answer
+answerOf way given = record { way = way; given = given }
 
 -- A refusal: its number and detail, six zeros and no segment.
 unfoldable pub refusedAnswer : Refusal → Answer
-refusedAnswer r = answerOf (ways.Refused r) zeroState
+refusedAnswer r = answerOf (ways.Refused r) nothingGiven
 
--- Target equals center: zeros.
+-- Target equals center: zeros in J2000.
 unfoldable pub sameAnswer : Answer
-sameAnswer = answerOf ways.Same zeroState
+sameAnswer = answerOf ways.Same (givenOf zeroState j2000)
 
--- The answer by a way, of what was evaluated: its refusal, then 15, then the state.
-unfoldable pub settled : Way → Evaluated → Answer
-settled way (evaluation.State s) = cond (finiteState s) (answerOf way s) (refusedAnswer NotFinite)
-settled way (evaluation.Refused r) = refusedAnswer r
+-- The answer by a way, of what segments gave: the refusal, then 15, then the state.
+unfoldable pub settled : Way → Yielded → Answer
+settled way (yielded.Given g) = cond (finiteState (g .state)) (answerOf way g) (refusedAnswer NotFinite)
+settled way (yielded.Refused r) = refusedAnswer r
 
 -- All six numbers negated.
-unfoldable pub negatedOf : Evaluated → Evaluated
-negatedOf (evaluation.State s) = evaluation.State (negatedState s)
-negatedOf (evaluation.Refused r) = evaluation.Refused r
+unfoldable pub negatedOf : Yielded → Yielded
+negatedOf (yielded.Given g) = yielded.Given (negatedGiven g)
+negatedOf (yielded.Refused r) = yielded.Refused r
 
 -- A state less another that may be refused.
-abbrev pub lessOf : State → Evaluated → Evaluated
-lessOf a (evaluation.State b) = evaluation.State (minusState a b)
-lessOf a (evaluation.Refused r) = evaluation.Refused r
+abbrev pub lessOf : Given → Yielded → Yielded
+lessOf a (yielded.Given b) = yielded.Given (minusGiven a b)
+lessOf a (yielded.Refused r) = yielded.Refused r
 
 -- The first less the second. The first's refusal comes first.
-unfoldable pub differenceOf : Evaluated → Evaluated → Evaluated
-differenceOf (evaluation.State a) e = lessOf a e
-differenceOf (evaluation.Refused r) e = evaluation.Refused r
+unfoldable pub differenceOf : Yielded → Yielded → Yielded
+differenceOf (yielded.Given a) e = lessOf a e
+differenceOf (yielded.Refused r) e = yielded.Refused r

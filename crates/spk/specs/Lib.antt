@@ -11,3 +11,4 @@ pub mod Touched
 pub mod Turning
 pub mod When
 pub mod Told
+pub mod Before

@@ -1,23 +1,20 @@
--- What a question goes by: the definitions of `Asking` and `Alone`, with the segments that were found handed in. Assumes nothing: these are definitions.
+-- What a question goes by: the definitions of `Asking`, with the segments that were found handed in. Assumes nothing: these are definitions.
 use Prim.Native.Nat.{ℕ}
 use mathlib.Core.Bool.{Bool, true, false, cond, _&&_, _||_}
-use mathlib.Core.List.{[]}
 use lib.Dec.{ltb}
-use lib.Ieee.{Float, isNan}
+use lib.Ieee.{isNan}
 use Rattle.refusal.specs.declared.Refusal.the-variants.{TableUnfit, EpochNan}
 use Rattle.segment.specs.declared.Segment.{Segment}
-use Rattle.segment.specs.declared.Evaluated.{Evaluated}
-use Rattle.segment.specs.declared.Evaluated.the-variants as evaluation
 use Rattle.table.specs.declared.Choice.{Choice}
 use Rattle.table.specs.declared.Choice.the-variants.{At, Nothing}
-use Rattle.chain.specs.Step.{Evaluation}
+use Rattle.chain.specs.declared.Yielded.{Yielded}
+use Rattle.chain.specs.declared.Yielded.the-variants as yielded
 use Rattle.spk.specs.declared.Question.{Question}
 use Rattle.spk.specs.declared.Memory.{Memory}
 use Rattle.spk.specs.declared.Memory.the-variants.{Blank, Kept}
 use Rattle.spk.specs.declared.Answer.{Answer}
 use Rattle.spk.specs.Questions.{isSame, hits, serves}
 use Rattle.spk.specs.Answers.{refusedAnswer, sameAnswer}
-use Rattle.spk.specs.Alone.{aloneAnswer}
 
 -- Segment i, if it is of the question's pair and covers the epoch.
 abbrev pub hitAt : Question → Segment → ℕ → Choice
@@ -32,10 +29,10 @@ placeKept (Kept i) n = i
 unfoldable pub recalledBy : Question → Segment → ℕ → ℕ → Choice
 recalledBy q s i n = cond (ltb i n && serves q s) (At i) Nothing
 
--- What was evaluated is a refusal.
-abbrev pub isFailed : Evaluated → Bool
-isFailed (evaluation.Refused r) = true
-isFailed (evaluation.State s) = false
+-- It is a refusal.
+abbrev pub isFailed : Yielded → Bool
+isFailed (yielded.Refused r) = true
+isFailed (yielded.Given g) = false
 
 -- A test before the choice decides the question.
 unfoldable pub isEarly : ℕ → ℕ → Question → Bool
@@ -44,7 +41,3 @@ isEarly limit n q = isSame q || (ltb limit n || isNan (q .et))
 -- The answer that it then has: `askedBy`'s.
 unfoldable pub earlyAnswer : ℕ → ℕ → Question → Answer
 earlyAnswer limit n q = cond (isSame q) sameAnswer (cond (ltb limit n) (refusedAnswer TableUnfit) (refusedAnswer EpochNan))
-
--- `aloneAnswer`, with the segment handed in.
-abbrev pub aloneWith : ℕ → Evaluation → ℕ → ℕ → Float → Segment → Answer
-aloneWith limit ev n i et s = aloneAnswer limit (λ _. ev s) [] n i et

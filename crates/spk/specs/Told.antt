@@ -2,6 +2,7 @@
 use Prim.Native.Nat.{ℕ}
 use mathlib.Core.List.{List, [], _∷_}
 use Rattle.frame.specs.declared.State.{State}
+use Rattle.frame.specs.declared.Framed.{Framed}
 use Rattle.refusal.specs.Told.{Numbered, refusedBy, answered}
 use Rattle.spk.specs.declared.Memory.{Memory}
 use Rattle.spk.specs.declared.Memory.the-variants.{Blank, Kept}
@@ -31,13 +32,14 @@ wayTold (Reversed i) = record { numbered = answered; word = reversed; segments =
 wayTold Chained = record { numbered = answered; word = chained; segments = [] }
 wayTold (Refused r) = record { numbered = refusedBy r; word = refused; segments = [] }
 
--- An answer: its way and the six numbers.
+-- An answer: its way, the six numbers and their frame.
 pub record Told : Type 0 where
   pub way : ToldWay
   pub six : State
+  pub frame : Framed
 
 abbrev pub answerTold : Answer → Told
-answerTold a = record { way = wayTold (a .way); six = a .state }
+answerTold a = record { way = wayTold (a .way); six = a .given .state; frame = a .given .frame }
 
 -- With a memory: the answer, and the segment that is remembered after it, or none.
 pub record ToldAfter : Type 0 where

@@ -2,11 +2,16 @@
 use Prim.Native.Nat.{ℕ}
 use mathlib.Core.Bool.{Bool, true, false, cond}
 use mathlib.Core.List.{List}
-use Rattle.frame.specs.Frame.{Matrix, turnedBetween}
-use Rattle.frame.specs.declared.NaifFrame.{NaifFrame}
-use Rattle.frame.specs.declared.NaifFrame.the-variants.{J2000}
+use lib.IntN.{ℤ}
+use Rattle.frame.specs.declared.Framed.{Framed}
+use Rattle.frame.specs.declared.Turn.{Turn}
+use Rattle.frame.specs.declared.Turn.the-variants.{Stands, Forth, Back, Never}
+use Rattle.frame.specs.Frame.{Matrix, transposeOf}
+use Rattle.frame.specs.Framed.{turnOf}
+use Rattle.frame.specs.Given.{turnedGiven}
+use Rattle.refusal.specs.declared.Refusal.the-variants.{OtherFrame}
 use Rattle.segment.specs.declared.Segment.{Segment}
-use Rattle.segment.specs.declared.Evaluated.the-variants as evaluation
+use Rattle.chain.specs.declared.Yielded.the-variants as yielded
 use Rattle.chain.specs.Step.{Evaluation}
 use Rattle.spk.specs.declared.Question.{Question}
 use Rattle.spk.specs.declared.Memory.{Memory}
@@ -16,12 +21,12 @@ use Rattle.spk.specs.declared.Answer.{Answer}
 use Rattle.spk.specs.declared.Asked.{Asked}
 use Rattle.spk.specs.declared.Wanted.{Wanted}
 use Rattle.spk.specs.declared.Wanted.the-variants.{AsItStands, In}
-use Rattle.spk.specs.Answers.{settled}
+use Rattle.spk.specs.Answers.{refusedAnswer, settled}
 use Rattle.spk.specs.Asking.{asked}
 
--- The frame that an answer's state is in: every segment is taken to be in J2000.
-abbrev pub frameOf : Answer → NaifFrame
-frameOf a = J2000
+-- The frame that an answer's numbers are in: that of the segments that gave them.
+abbrev pub frameOf : Answer → Framed
+frameOf a = a .given .frame
 
 abbrev pub isRefused : Way → Bool
 isRefused Same = false
@@ -30,10 +35,17 @@ isRefused (Reversed i) = false
 isRefused Chained = false
 isRefused (Refused r) = true
 
--- The answer turned to a frame: the state's refusal first, then 15 of the turned state.
-unfoldable pub turnedTo : NaifFrame → Matrix → Answer → Answer
-turnedTo to rot a =
-    cond (isRefused (a .way)) a (settled (a .way) (evaluation.State (turnedBetween (frameOf a) to rot (a .state))))
+-- An answer as the turn to a frame makes it. In its own frame it stands, bit for bit; the matrix turns it from 1 to 17, its transpose from 17 to 1,
+-- and then 15 is asked of the turned state; anything else is 21.
+unfoldable pub turnedBy : Turn → ℤ → Matrix → Answer → Answer
+turnedBy Stands to rot a = a
+turnedBy Forth to rot a = settled (a .way) (yielded.Given (turnedGiven rot to (a .given)))
+turnedBy Back to rot a = settled (a .way) (yielded.Given (turnedGiven (transposeOf rot) to (a .given)))
+turnedBy Never to rot a = refusedAnswer OtherFrame
+
+-- The answer in a frame: the state's refusal first.
+unfoldable pub turnedTo : ℤ → Matrix → Answer → Answer
+turnedTo to rot a = cond (isRefused (a .way)) a (turnedBy (turnOf (frameOf a) to) to rot a)
 
 -- Without a frame it is given as it stands.
 abbrev pub turnedAnswer : Wanted → Matrix → Answer → Answer

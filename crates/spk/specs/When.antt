@@ -1,4 +1,4 @@
--- When a question is refused with 10, 11, 12, 13, 14 or 15, and a segment alone with these or 17: what the statements say. Assumes nothing: these are
+-- When a question is refused with 10, 11, 12, 13, 14 or 15, in a frame with these or 21, and a segment alone with these or 17: what the statements say. Assumes nothing: these are
 -- definitions.
 use Prim.Native.Nat.{ℕ, _≤_, _<_}
 use mathlib.Core.Path.{_≡_}
@@ -9,10 +9,13 @@ use lib.Dec.{eqb}
 use lib.Ieee.{Float, isNan}
 use lib.IntN.{ℤ}
 use Rattle.frame.specs.declared.State.{State}
-use Rattle.frame.specs.declared.NaifFrame.{NaifFrame}
-use Rattle.frame.specs.State.{negatedState, minusState}
+use Rattle.frame.specs.declared.Given.{Given}
+use Rattle.frame.specs.declared.Turn.{Turn}
+use Rattle.frame.specs.declared.Turn.the-variants.{Stands, Forth, Back, Never}
+use Rattle.frame.specs.Given.{negatedGiven, minusGiven}
 use Rattle.frame.specs.Finite.{Infinite}
-use Rattle.frame.specs.Frame.{Matrix, turnedBetween}
+use Rattle.frame.specs.Frame.{Matrix, turnedState, transposeOf}
+use Rattle.frame.specs.Framed.{turnOf}
 use Rattle.refusal.specs.declared.Refusal.{Refusal}
 use Rattle.refusal.specs.declared.Refusal.the-variants.{TableUnfit}
 use Rattle.refusal.specs.Numbers.{numberOf}
@@ -21,7 +24,8 @@ use Rattle.segment.specs.declared.Evaluated.the-variants as evaluation
 use Rattle.table.specs.declared.Choice.the-variants.{At, Nothing}
 use Rattle.table.specs.Segments.{seg}
 use Rattle.chain.specs.declared.Leg.{Leg}
-use Rattle.chain.specs.Step.{Evaluation}
+use Rattle.chain.specs.declared.Yielded.the-variants as yielded
+use Rattle.chain.specs.Step.{Evaluation, givenBy}
 use Rattle.chain.specs.Walk.{chainLimit, isZero, toZero}
 use Rattle.chain.specs.When.{Stuck, Failed}
 use Rattle.spk.specs.declared.Question.{Question}
@@ -44,7 +48,7 @@ is12or13 r = eqb (numberOf r) 12 || eqb (numberOf r) 13
 module _ (ev : Evaluation) (segs : List Segment) (n : ℕ) where
   -- The walk from a question's target to body 0 ends with a state. Body 0 takes no step.
   abbrev pub Arrives : Question → Type 0
-  Arrives q = (x : State) × (toZero ev segs n (legFrom q) ≡ evaluation.State x)
+  Arrives q = (x : Given) × (toZero ev segs n (legFrom q) ≡ yielded.Given x)
 
   -- So it is with the walk from a question's target, which is not body 0.
   abbrev pub OfWalk : (Leg → Type 0) → Question → Type 0
@@ -59,6 +63,17 @@ pub record Open (limit n : ℕ) (q : Question) : Type 0 where
   pub other : isSame q ≡ false
   pub fits : n ≤ limit
   pub number : isNan (q .et) ≡ false
+
+-- The numbers of the refusals of a state in a frame: 10 to 15, and 21.
+abbrev pub InNumber : ℕ → Type 0
+InNumber k = ((10 ≤ k) × (k ≤ 15)) ⊎ (k ≡ 21)
+
+-- The matrix that turns a state: the caller's forth, its transpose back.
+abbrev pub turnsBy : Turn → Matrix → Matrix → Type 0
+turnsBy Stands rot by = ⊥
+turnsBy Forth rot by = rot ≡ by
+turnsBy Back rot by = transposeOf rot ≡ by
+turnsBy Never rot by = ⊥
 
 -- ---- a state
 module _ (limit : ℕ) (ev : Evaluation) (segs : List Segment) (n : ℕ) (m : Memory) (q : Question) where
@@ -81,11 +96,11 @@ module _ (limit : ℕ) (ev : Evaluation) (segs : List Segment) (n : ℕ) (m : Me
     reversed : forwardIn segs n m q ≡ Nothing → lastReversed segs n q ≡ At i → evaluatedAt ev segs q i ≡ evaluation.Refused r → Refuses i r
     chained : Chaining → InChain ev segs n (λ leg. Failed ev segs n leg chainLimit i r) q → Refuses i r
 
-  -- The question ends with a state before 15: the forward choice's; or, with all six negated, the reversed one's; or the target's less the center's.
-  pub data Gives (s : State) : Type 0 where
-    by-forward : (i : ℕ) → forwardIn segs n m q ≡ At i → evaluatedAt ev segs q i ≡ evaluation.State s → Gives s
-    by-reversed : (i : ℕ) (x : State) → forwardIn segs n m q ≡ Nothing → lastReversed segs n q ≡ At i → evaluatedAt ev segs q i ≡ evaluation.State x → negatedState x ≡ s → Gives s
-    by-chain : Chaining → (a : Arrives ev segs n q) (b : Arrives ev segs n (swapped q)) → minusState (a .0) (b .0) ≡ s → Gives s
+  -- The question ends with a state before 15, in the frame of the segments that gave it: the forward choice's; or, with all six negated, the reversed one's; or the target's less the center's.
+  pub data Gives (g : Given) : Type 0 where
+    by-forward : (i : ℕ) (x : State) → forwardIn segs n m q ≡ At i → evaluatedAt ev segs q i ≡ evaluation.State x → givenBy (seg segs i) x ≡ g → Gives g
+    by-reversed : (i : ℕ) (x : State) → forwardIn segs n m q ≡ Nothing → lastReversed segs n q ≡ At i → evaluatedAt ev segs q i ≡ evaluation.State x → negatedGiven (givenBy (seg segs i) x) ≡ g → Gives g
+    by-chain : Chaining → (a : Arrives ev segs n q) (b : Arrives ev segs n (swapped q)) → minusGiven (a .0) (b .0) ≡ g → Gives g
 
   -- 10: the epoch is NaN, and no earlier test decides.
   pub record When10 : Type 0 where
@@ -113,21 +128,32 @@ module _ (limit : ℕ) (ev : Evaluation) (segs : List Segment) (n : ℕ) (m : Me
   -- 15: there is a state, and a number of the six is not finite.
   pub record When15 : Type 0 where
     pub past : Open limit n q
-    pub state : State
-    pub gives : Gives state
-    pub infinite : Infinite state
+    pub given : Given
+    pub gives : Gives given
+    pub infinite : Infinite (given .state)
 
   -- ---- a state in a frame
   module _ (wanted : Wanted) (rot : Matrix) where
     abbrev pub RefusedInBy : Refusal → Type 0
     RefusedInBy r = askedIn limit ev segs n m q wanted rot .answer .way ≡ Refused r
 
-    -- 15 of the turned state: the question itself is answered, and a number of its state turned to the frame that is wanted is not finite.
-    pub record When15Turned : Type 0 where
-      pub to : NaifFrame
+    -- The question itself is answered, and a frame is wanted.
+    pub record Framing : Type 0 where
+      pub to : ℤ
       pub frame : wanted ≡ In to
       pub answered : isRefused (answer .way) ≡ false
-      pub infinite : Infinite (turnedBetween (frameOf answer) to rot (answer .state))
+
+    -- 21: the numbers are in several frames, or in one that is neither the frame that is wanted, nor 1 with 17 wanted, nor 17 with 1.
+    pub record When21 : Type 0 where
+      pub framing : Framing
+      pub never : turnOf (frameOf answer) (framing .to) ≡ Never
+
+    -- 15 of the turned state: a matrix turns the numbers, and one of the turned state's is not finite.
+    pub record When15Turned : Type 0 where
+      pub framing : Framing
+      pub by : Matrix
+      pub turns : turnsBy (turnOf (frameOf answer) (framing .to)) rot by
+      pub infinite : Infinite (turnedState by (answer .given .state))
 
 -- ---- a segment alone
 -- The numbers of its refusals: 10, 12 to 15, and 17.

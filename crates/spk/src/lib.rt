@@ -9,14 +9,19 @@ ghost use Rattle.spk.specs.Questions.{isSame, swapped, isPair, hits, ser
 ghost use Rattle.spk.specs.Choosing.{rememberedAt};
 ghost use Rattle.spk.specs.Answers.{answerOf, refusedAnswer, sameAnswer, settled, negatedOf, lessOf, differenceOf};
 ghost use Rattle.spk.specs.Asking.{legFrom};
-ghost use Rattle.spk.specs.Turning.{frameOf, isRefused, turnedTo, turnedAnswer, turnedAsked};
-ghost use Rattle.spk.specs.Steps.{hitAt, placeKept, recalledBy, isFailed, isEarly, earlyAnswer, aloneWith};
+ghost use Rattle.spk.specs.Turning.{frameOf, isRefused, turnedBy, turnedTo, turnedAnswer, turnedAsked};
+ghost use Rattle.spk.specs.Alone.{aloneWith};
+ghost use Rattle.spk.specs.Steps.{hitAt, placeKept, recalledBy, isFailed, isEarly, earlyAnswer};
+ghost use Rattle.chain.specs.Step.{yieldOf};
 ghost use Rattle.chain.specs.Steps.{begin};
 use chain::Leg;
 use chain::Next;
+use chain::Yielded;
 use daf::Family;
-use frame::NaifFrame;
+use frame::Framed;
+use frame::Given;
 use frame::State;
+use frame::Turn;
 use refusal::Refusal;
 use segment::Evaluated;
 use segment::Segment;
@@ -46,16 +51,16 @@ pub enum Way {
     Refused(Refusal),
 }
 
-// The frame that a state is asked in: none, so that it is given as it stands, or one of the two.
+// The frame that a state is asked in: none, so that it is given as it stands, or the one of this number.
 pub enum Wanted {
     AsItStands,
-    In(NaifFrame),
+    In(i32),
 }
 
-// An answer: its way and the state, six zeros where it is a refusal.
+// An answer: its way, and the state with the frame of its numbers: six zeros that no segment gave where it is a refusal.
 pub struct Answer {
     pub way: Way,
-    pub state: State,
+    pub given: Given,
 }
 
 // An answer, with what is remembered after it.
@@ -87,7 +92,7 @@ impl Question {
     fn leg(self) -> Leg
         ensures { λ r. ⌜ r ≡ legFrom self ⌝ }
     {
-        let total = State::zero();
+        let total = Given::nothing();
         Leg {
             start: self.target,
             body: self.target,
@@ -157,66 +162,90 @@ impl Way {
 
 impl Answer {
     // Every answer is made here.
-    fn new(way: Way, state: State) -> Answer
-        ensures { λ r. ⌜ r ≡ answerOf way state ⌝ }
+    fn new(way: Way, given: Given) -> Answer
+        ensures { λ r. ⌜ r ≡ answerOf way given ⌝ }
     {
         Answer {
             way: way,
-            state: state,
+            given: given,
         }
     }
 
-    // Six zeros, for target equal to center.
+    // Six zeros in J2000, for target equal to center.
     fn same() -> Answer
         ensures { λ r. ⌜ r ≡ sameAnswer ⌝ }
     {
-        Answer::new(Way::Same, State::zero())
+        Answer::new(Way::Same, Given::of(State::zero(), frame::J2000))
     }
 
     // A refusal.
     fn refused(r: Refusal) -> Answer
         ensures { λ a. ⌜ a ≡ refusedAnswer r ⌝ }
     {
-        Answer::new(Way::Refused(r), State::zero())
+        Answer::new(Way::Refused(r), Given::nothing())
     }
 
-    // The answer by a way, of what was evaluated: its refusal, then 15, then the state.
-    fn settled(way: Way, e: Evaluated) -> Answer
-        ensures { λ r. ⌜ r ≡ settled way e ⌝ }
+    // The answer by a way, of a state that segments gave: 15, then the state.
+    fn of(way: Way, g: Given) -> Answer
+        ensures { λ r. ⌜ r ≡ settled way (Yielded.Given g) ⌝ }
     {
-        match e {
-            Evaluated::Refused(r) => Answer::refused(r),
-            Evaluated::State(s) => {
-                if s.is_finite() {
-                    Answer::new(way, s)
-                } else {
-                    Answer::refused(Refusal::NotFinite)
-                }
-            }
+        if g.state.is_finite() {
+            Answer::new(way, g)
+        } else {
+            Answer::refused(Refusal::NotFinite)
         }
     }
 
-    // The frame that the state is in: every segment is taken to be in J2000.
-    fn frame(self) -> NaifFrame
-        ensures { λ r. ⌜ r ≡ frameOf self ⌝ }
+    // The same of what segments gave, or the refusal that came of them.
+    fn settled(way: Way, e: Yielded) -> Answer
+        ensures { λ r. ⌜ r ≡ settled way e ⌝ }
     {
-        NaifFrame::J2000
+        match e {
+            Yielded::Refused(r) => Answer::refused(r),
+            Yielded::Given(g) => Answer::of(way, g),
+        }
     }
 
-    // The answer turned to a frame: the state's refusal first, then 15 of the turned state.
-    fn turned_to(self, to: NaifFrame, rot: [[f64; 3]; 3]) -> Answer
+    // The frame that the numbers are in.
+    fn frame(self) -> Framed
+        ensures { λ r. ⌜ r ≡ frameOf self ⌝ }
+    {
+        let given = self.given;
+        let frame = given.frame;
+        frame
+    }
+
+    // The answer as the turn to a frame makes it: by the matrix, by its transpose, or 21.
+    fn turned_by(self, turn: Turn, to: i32, rot: [[f64; 3]; 3]) -> Answer
+        ensures { λ r. ⌜ r ≡ turnedBy turn to rot self ⌝ }
+    {
+        let way = self.way;
+        let given = self.given;
+        match turn {
+            Turn::Stands => self,
+            Turn::Forth => Answer::of(way, given.turned(rot, to)),
+            Turn::Back => {
+                let back = frame::transpose(rot);
+                Answer::of(way, given.turned(back, to))
+            }
+            Turn::Never => Answer::refused(Refusal::OtherFrame),
+        }
+    }
+
+    // The answer in a frame: the state's refusal first, then 21, then 15 of the turned state.
+    fn turned_to(self, to: i32, rot: [[f64; 3]; 3]) -> Answer
         ensures { λ r. ⌜ r ≡ turnedTo to rot self ⌝ }
     {
         let way = self.way;
         if way.is_refused() {
             return self;
         }
-        let state = self.state;
-        let turned = frame::rotate_state(self.frame(), to, rot, state);
-        Answer::settled(way, Evaluated::State(turned))
+        let from = self.frame();
+        let turn = from.turn(to);
+        self.turned_by(turn, to, rot)
     }
 
-    // The answer in the frame that it is asked in: J2000 to ECLIPJ2000 by the matrix `rot`, given row by row.
+    // The answer in the frame that it is asked in: the matrix `rot`, given row by row, turns J2000 to ECLIPJ2000.
     pub fn turned(self, wanted: Wanted, rot: [[f64; 3]; 3]) -> Answer
         ensures { λ r. ⌜ r ≡ turnedAnswer wanted rot self ⌝ }
     {
@@ -227,41 +256,32 @@ impl Answer {
     }
 }
 
-// All six numbers negated.
-fn negated(e: Evaluated) -> Evaluated
-    ensures { λ r. ⌜ r ≡ negatedOf e ⌝ }
-{
-    match e {
-        Evaluated::Refused(r) => Evaluated::Refused(r),
-        Evaluated::State(s) => Evaluated::State(s.negated()),
-    }
-}
-
 // A state less another that may be refused.
-fn less(a: State, e: Evaluated) -> Evaluated
+fn less(a: Given, e: Yielded) -> Yielded
     ensures { λ r. ⌜ r ≡ lessOf a e ⌝ }
 {
     match e {
-        Evaluated::Refused(r) => Evaluated::Refused(r),
-        Evaluated::State(b) => Evaluated::State(a.minus(b)),
+        Yielded::Refused(r) => Yielded::Refused(r),
+        Yielded::Given(b) => Yielded::Given(a.minus(b)),
     }
 }
 
 // Segment i answers in its own direction.
 fn evaluated_at(kernel: &[u8], i: usize, s: Segment, et: f64) -> Answer
     requires { ⌜ i < lentLimit ⌝ }
-    ensures { λ r. ⌜ r ≡ settled (Way.Forward i) (evaluated Spk (now (kernel .entry)) s i et) ⌝ }
+    ensures { λ r. ⌜ r ≡ settled (Way.Forward i) (yieldOf s (evaluated Spk (now (kernel .entry)) s i et)) ⌝ }
 {
-    Answer::settled(
-        Way::Forward(i),
-        segment::evaluate(kernel, Family::Spk, s, i as u32, et),
-    )
+    let e = segment::evaluate(kernel, Family::Spk, s, i as u32, et);
+    match e {
+        Evaluated::Refused(r) => Answer::refused(r),
+        Evaluated::State(x) => Answer::of(Way::Forward(i), Given::of(x, s.frame)),
+    }
 }
 
 // Segment i, which was chosen forward, answers; `kept` is what is remembered after it.
 pub fn forward(kernel: &[u8], kept: Memory, i: usize, s: Segment, q: Question) -> Asked
     requires { ⌜ i < lentLimit ⌝ }
-    ensures { λ r. ⌜ r ≡ record { answer = settled (Way.Forward i) (evaluated Spk (now (kernel .entry)) s i (q .et)); memory = kept } ⌝ }
+    ensures { λ r. ⌜ r ≡ record { answer = settled (Way.Forward i) (yieldOf s (evaluated Spk (now (kernel .entry)) s i (q .et))); memory = kept } ⌝ }
 {
     let answer = evaluated_at(kernel, i, s, q.et);
     Asked {
@@ -273,14 +293,17 @@ pub fn forward(kernel: &[u8], kept: Memory, i: usize, s: Segment, q: Question) -
 // Segment i, which was chosen reversed, answers.
 pub fn reversed(kernel: &[u8], i: usize, s: Segment, q: Question) -> Answer
     requires { ⌜ i < lentLimit ⌝ }
-    ensures { λ r. ⌜ r ≡ settled (Way.Reversed i) (negatedOf (evaluated Spk (now (kernel .entry)) s i (q .et))) ⌝ }
+    ensures { λ r. ⌜ r ≡ settled (Way.Reversed i) (negatedOf (yieldOf s (evaluated Spk (now (kernel .entry)) s i (q .et)))) ⌝ }
 {
     let e = segment::evaluate(kernel, Family::Spk, s, i as u32, q.et);
-    Answer::settled(Way::Reversed(i), negated(e))
+    match e {
+        Evaluated::Refused(r) => Answer::refused(r),
+        Evaluated::State(x) => Answer::of(Way::Reversed(i), Given::of(x, s.frame).negated()),
+    }
 }
 
 // The answer by the chain, of what it resulted in.
-pub fn by_chain(e: Evaluated) -> Answer
+pub fn by_chain(e: Yielded) -> Answer
     ensures { λ r. ⌜ r ≡ settled Way.Chained e ⌝ }
 {
     Answer::settled(Way::Chained, e)
@@ -344,28 +367,28 @@ pub fn start_of(q: Question) -> Next
     let leg = q.leg();
     if chain::is_zero(leg) {
         let total = leg.total;
-        return Next::Ended(Evaluated::State(total));
+        return Next::Ended(Yielded::Given(total));
     }
     Next::Onward(leg)
 }
 
 // The first less the second. The first's refusal comes first.
-pub fn difference(a: Evaluated, b: Evaluated) -> Evaluated
+pub fn difference(a: Yielded, b: Yielded) -> Yielded
     ensures { λ r. ⌜ r ≡ differenceOf a b ⌝ }
 {
     match a {
-        Evaluated::Refused(r) => Evaluated::Refused(r),
-        Evaluated::State(x) => less(x, b),
+        Yielded::Refused(r) => Yielded::Refused(r),
+        Yielded::Given(x) => less(x, b),
     }
 }
 
-// What was evaluated is a refusal.
-pub fn is_failed(e: Evaluated) -> bool
+// It is a refusal.
+pub fn is_failed(e: Yielded) -> bool
     ensures { λ r. ⌜ r ≡ isFailed e ⌝ }
 {
     match e {
-        Evaluated::Refused(_) => true,
-        Evaluated::State(_) => false,
+        Yielded::Refused(_) => true,
+        Yielded::Given(_) => false,
     }
 }
 

@@ -11,12 +11,12 @@ use Rattle.ask.proofs.print.Statement.{statement}
 use Rattle.ask.proofs.print.Tie as tie
 
 put-output-requires : tie.Need-put-output-requires
-put-output-requires c κs = enough answerRoom questionSize (omega arith) refl _ _ (c .before .before .before .before .pre) (length-replicate {A = ℕ} (bufferSize answerRoom questionSize) 0)
+put-output-requires c κs = enough answerRoom questionSize (omega arith) refl _ _ (c .before .before .before .before .before .pre) (length-replicate {A = ℕ} (bufferSize answerRoom questionSize) 0)
 
 write-requires : tie.Need-write-requires
 write-requires c κs =
     let p = c .before .before in
-    within answerRoom questionSize (omega arith) refl _ _ _ _ (p .put-output .ensures .1) (p .before .before .before .before .before .pre) (p .put-output .kept .0) (length-replicate {A = ℕ} (bufferSize answerRoom questionSize) 0)
+    within answerRoom questionSize (omega arith) refl _ _ _ _ (p .put-output .ensures .1) (p .before .before .before .before .before .before .pre) (p .put-output .kept .0) (length-replicate {A = ℕ} (bufferSize answerRoom questionSize) 0)
 
 -- ---- by search
 

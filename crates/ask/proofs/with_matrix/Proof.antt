@@ -24,10 +24,22 @@ enum-known-input : tie.Need-enum-known-input
 enum-known-input c = search needs
 
 array-share-prefix-buf : tie.Need-array-share-prefix-buf
-array-share-prefix-buf c = read (c .before) .0
+array-share-prefix-buf c = read (c .before .before) .0
+
+slice-aggregate-with-frame : tie.Need-slice-aggregate-with-frame
+slice-aggregate-with-frame c = read (c .before .before .before) .1
+
+with-frame-requires : tie.Need-with-frame-requires
+with-frame-requires c κs = search needs
+
+array-share-prefix-buf-2 : tie.Need-array-share-prefix-buf-2
+array-share-prefix-buf-2 c = read (c .before .before) .0
 
 slice-aggregate-print-turned : tie.Need-slice-aggregate-print-turned
-slice-aggregate-print-turned c = read (c .before .before) .1
+slice-aggregate-print-turned c = read (c .before .before .before) .1
+
+slice-aggregate-print-turned-2 : tie.Need-slice-aggregate-print-turned-2
+slice-aggregate-print-turned-2 c = search needs
 
 print-turned-requires : tie.Need-print-turned-requires
 print-turned-requires c κs = search needs
@@ -41,6 +53,9 @@ returns c = search needs
 returns-2 : tie.Need-returns-2
 returns-2 c = search needs
 
+returns-3 : tie.Need-returns-3
+returns-3 c = search needs
+
 pub with-matrix-spec : {M : Type 1} → statement M
 with-matrix-spec =
     tie.close
@@ -50,8 +65,13 @@ with-matrix-spec =
     read-argument-requires
     enum-known-input
     array-share-prefix-buf
+    slice-aggregate-with-frame
+    with-frame-requires
+    array-share-prefix-buf-2
     slice-aggregate-print-turned
+    slice-aggregate-print-turned-2
     print-turned-requires
     enum-told
     returns
-    returns-2)
+    returns-2
+    returns-3)

@@ -48,8 +48,11 @@ slice-aggregate-print c = read (c .before .before .before) .1
 slice-aggregate-print-2 : tie.Need-slice-aggregate-print-2
 slice-aggregate-print-2 c = search needs
 
+slice-aggregate-print-3 : tie.Need-slice-aggregate-print-3
+slice-aggregate-print-3 c = search needs
+
 print-requires : tie.Need-print-requires
-print-requires c κs = few (c .before .before .before .before)
+print-requires c κs = few (c .before .before .before .before .before)
 
 enum-told : tie.Need-enum-told
 enum-told c = search needs
@@ -77,6 +80,7 @@ with-questions-spec =
     array-share-prefix-buf-2
     slice-aggregate-print
     slice-aggregate-print-2
+    slice-aggregate-print-3
     print-requires
     enum-told
     returns

@@ -3,12 +3,16 @@ use mathlib.Core.Path.{_≡_, sym, ap, _∙_, subst}
 use mathlib.Core.List.{List}
 use Prim.Native.Nat.{ℕ}
 use native.Mathlib.Nat.{le-refl}
+use lib.IntN.{ℤ}
+use mir.Syntax.{w32}
+use mir.ValLaws.{toZ-ofZ}
 use borrow.Author.Tests.{eq-eqb, ne-eqb}
 use Rattle.daf.specs.declared.Family.the-variants.{Spk}
 use Rattle.frame.specs.Frame.{Matrix}
 use Rattle.table.specs.Places.{lentLimit}
 use Rattle.opening.specs.declared.Plan.{Plan}
 use Rattle.opening.specs.Steps.{Fits}
+use Rattle.spk.specs.declared.Wanted.the-variants.{In}
 use Rattle.lines.specs.Written.{Written}
 use Rattle.admission.specs.Order.{runPlan}
 use Rattle.admission.proofs.Ways.{run-plan-fits}
@@ -43,9 +47,10 @@ returns c =
     let p = t .before in
     let a = p .before .before .before .before .before .args in (
       subst (λ (l : List ℕ). Written (a .out .now) 0 l (d .put-planned .last .0) (d .put-planned .result))
-          (ap (λ (y : Plan). plannedText (a .kernel .now) (a .asked .now) y _ (r .rows .result)) (p .«plan» .ensures)
-          ∙ ap (λ (m : Matrix). plannedText (a .kernel .now) (a .asked .now) (runPlan Spk lentLimit questionSize questionMark (a .kernel .now) (a .asked .now)) _ m) (r .rows .ensures)
-          ∙ turned-text (a .kernel .now) (a .asked .now) (a .matrix .now) (eq-eqb _ _ (t .if1 .taken)))
+          (ap (λ (f : ℤ). plannedText (a .kernel .now) (a .asked .now) (p .«plan» .result) (In f) (r .rows .result)) (toZ-ofZ w32 (a .frame) (p .before .before .before .before .before .fits .frame))
+          ∙ ap (λ (y : Plan). plannedText (a .kernel .now) (a .asked .now) y (In (a .frame)) (r .rows .result)) (p .«plan» .ensures)
+          ∙ ap (λ (m : Matrix). plannedText (a .kernel .now) (a .asked .now) (runPlan Spk lentLimit questionSize questionMark (a .kernel .now) (a .asked .now)) (In (a .frame)) m) (r .rows .ensures)
+          ∙ turned-text (a .kernel .now) (a .asked .now) (a .matrix .now) (a .frame) (eq-eqb _ _ (t .if1 .taken)))
           (d .put-planned .ensures .0),
       d .put-planned .ensures .1,
     )
@@ -58,7 +63,7 @@ returns-2 c =
     let a = p .before .before .before .before .before .args in (
       subst (λ (l : List ℕ). Written (a .out .now) 0 l (d .put-planned2 .last .0) (d .put-planned2 .result))
           (ap (λ (y : Plan). plannedText (a .kernel .now) (a .asked .now) y _ _) (p .«plan» .ensures)
-          ∙ plain-text (a .kernel .now) (a .asked .now) (a .matrix .now) _ (ne-eqb _ _ (t .if1 .left)))
+          ∙ plain-text (a .kernel .now) (a .asked .now) (a .matrix .now) (a .frame) _ (ne-eqb _ _ (t .if1 .left)))
           (d .put-planned2 .ensures .0),
       d .put-planned2 .ensures .1,
     )

@@ -1,8 +1,8 @@
 use mathlib.Core.Bool.{true, false}
-use Rattle.frame.specs.declared.State.{State}
+use Rattle.frame.specs.declared.Given.{Given}
 -- `chain::advance` meets its contract: an answer for each way. Assumes nothing.
 use mathlib.Core.Path.{_∙_, sym, ap}
-use Rattle.segment.specs.declared.Evaluated.the-variants as evaluation
+use Rattle.chain.specs.declared.Yielded.the-variants as yielded
 use Rattle.chain.specs.declared.Next.the-variants.{Ended, Onward}
 use Rattle.chain.specs.Walk.{advance}
 use Rattle.chain.proofs.Walks.{advance-kept}
@@ -50,7 +50,7 @@ returns-3 c = sym (ap (advance _) (c .before .step .given .1))
 
 returns-4 : tie.Need-returns-4
 returns-4 c =
-    ap (λ (x : State). Ended (evaluation.State x)) (c .plus .ensures) ∙ sym (ap (advance _) (c .before .before .step2 .given .1))
+    ap (λ (x : Given). Ended (yielded.Given x)) (c .plus .ensures) ∙ sym (ap (advance _) (c .before .before .step2 .given .1))
 
 returns-5 : tie.Need-returns-5
 returns-5 c =

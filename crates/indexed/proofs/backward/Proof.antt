@@ -19,7 +19,7 @@ use Rattle.spk.specs.Questions.{swapped}
 use Rattle.spk.specs.Asking.{answerTo}
 use Rattle.indexed.proofs.backward.Code.Mir as body
 use Rattle.lent.proofs.Seg.{Seg, Seg-ty, lawful}
-use Rattle.lent.proofs.Rows.{Ans, Ans-ty, ans, ans-lawful, ans-makes, Cho-ty, cho-lawful, Eva-ty, eva-lawful, Que, Que-ty, que, que-tells, que-lawful, que-makes}
+use Rattle.lent.proofs.Rows.{Ans, Ans-ty, ans, ans-lawful, ans-makes, Cho-ty, cho-lawful, Yie-ty, yie-lawful, Que, Que-ty, que, que-tells, que-lawful, que-makes}
 use Rattle.lent.proofs.Calls.{ShrOwn}
 use Rattle.indexed.proofs.Calls.{the-find, the-chained-by, calls-find, calls-chained-by, out-find, out-chained-by}
 use Rattle.lent.proofs.Calls.{the-swapped, the-place-in, the-segment-at, the-reversed, the-by-chain, calls-swapped, calls-place-in, calls-segment-at, calls-reversed, calls-by-chain, out-swapped, out-segment-at, out-reversed, out-by-chain}
@@ -107,15 +107,15 @@ module _ {M : Type 1} (𝓤 : URA M) (H : Heap 𝓤) (A : Atoms 𝓤) (W : Given
 
     module _ (l₀ l₁ l₂ l₃ l₄ l₅ l₆ l₇ l₈ l₉ l₁₀ l₁₁ : ℕ) where
       abbrev En : Env 𝓤 H
-      En = (Ans-ty, l₀) ∷ (K-ty, l₁) ∷ (Tab₁-ty, l₂) ∷ (X-ty, l₃) ∷ (tyInt w64, l₄) ∷ (Que-ty, l₅) ∷ (Que-ty, l₆) ∷ (Cho-ty, l₇) ∷ (tyInt w64, l₈) ∷ (Seg-ty, l₉) ∷ (Eva-ty, l₁₀) ∷ (tyBool, l₁₁) ∷ []
+      En = (Ans-ty, l₀) ∷ (K-ty, l₁) ∷ (Tab₁-ty, l₂) ∷ (X-ty, l₃) ∷ (tyInt w64, l₄) ∷ (Que-ty, l₅) ∷ (Que-ty, l₆) ∷ (Cho-ty, l₇) ∷ (tyInt w64, l₈) ∷ (Seg-ty, l₉) ∷ (Yie-ty, l₁₀) ∷ (tyBool, l₁₁) ∷ []
 
       -- the locals are freed
-      ends : (r : Answer) → r ≡ answerTo (backwardBy (evaluated Spk (k .now)) (t .now) n (x .now) y) → Is Ans r (ans r ∷ []) → Sq W (‵ (ShrOwn u8 κ k) ∷ ‵ (flft κ q) ∷ ‵ (ShrOwn Seg κ′ t) ∷ ‵ (flft κ′ q′) ∷ ‵ (ShrOwn u16 κ″ x) ∷ ‵ (flft κ″ q″) ∷ ‵ (froom tyBool l₁₁ 0) ∷ ‵ (fdies tyBool l₁₁) ∷ ‵ (froom Eva-ty l₁₀ 0) ∷ ‵ (fdies Eva-ty l₁₀) ∷ ‵ (froom Seg-ty l₉ 0) ∷ ‵ (fdies Seg-ty l₉) ∷ ‵ (froom (tyInt w64) l₈ 0) ∷ ‵ (fdies (tyInt w64) l₈) ∷ ‵ (froom Cho-ty l₇ 0) ∷ ‵ (fdies Cho-ty l₇) ∷ ‵ (froom Que-ty l₆ 0) ∷ ‵ (fdies Que-ty l₆) ∷ ‵ (froom Que-ty l₅ 0) ∷ ‵ (fdies Que-ty l₅) ∷ ‵ (froom (tyInt w64) l₄ 0) ∷ ‵ (fdies (tyInt w64) l₄) ∷ ‵ (froom X-ty l₃ 0) ∷ ‵ (fdies X-ty l₃) ∷ ‵ (froom Tab₁-ty l₂ 0) ∷ ‵ (fdies Tab₁-ty l₂) ∷ ‵ (froom K-ty l₁ 0) ∷ ‵ (fdies K-ty l₁) ∷ ‵ (froom Ans-ty l₀ 0) ∷ ‵ (fdies Ans-ty l₀) ∷ []) (frees En (prop (Post (ans r))))
+      ends : (r : Answer) → r ≡ answerTo (backwardBy (evaluated Spk (k .now)) (t .now) n (x .now) y) → Is Ans r (ans r ∷ []) → Sq W (‵ (ShrOwn u8 κ k) ∷ ‵ (flft κ q) ∷ ‵ (ShrOwn Seg κ′ t) ∷ ‵ (flft κ′ q′) ∷ ‵ (ShrOwn u16 κ″ x) ∷ ‵ (flft κ″ q″) ∷ ‵ (froom tyBool l₁₁ 0) ∷ ‵ (fdies tyBool l₁₁) ∷ ‵ (froom Yie-ty l₁₀ 0) ∷ ‵ (fdies Yie-ty l₁₀) ∷ ‵ (froom Seg-ty l₉ 0) ∷ ‵ (fdies Seg-ty l₉) ∷ ‵ (froom (tyInt w64) l₈ 0) ∷ ‵ (fdies (tyInt w64) l₈) ∷ ‵ (froom Cho-ty l₇ 0) ∷ ‵ (fdies Cho-ty l₇) ∷ ‵ (froom Que-ty l₆ 0) ∷ ‵ (fdies Que-ty l₆) ∷ ‵ (froom Que-ty l₅ 0) ∷ ‵ (fdies Que-ty l₅) ∷ ‵ (froom (tyInt w64) l₄ 0) ∷ ‵ (fdies (tyInt w64) l₄) ∷ ‵ (froom X-ty l₃ 0) ∷ ‵ (fdies X-ty l₃) ∷ ‵ (froom Tab₁-ty l₂ 0) ∷ ‵ (fdies Tab₁-ty l₂) ∷ ‵ (froom K-ty l₁ 0) ∷ ‵ (fdies K-ty l₁) ∷ ‵ (froom Ans-ty l₀ 0) ∷ ‵ (fdies Ans-ty l₀) ∷ []) (frees En (prop (Post (ans r))))
       ends r e is =
           move ! (28 ∷ 29 ∷ []) $ free1 ! $ move ! (26 ∷ 27 ∷ []) $ free1 ! $ move ! (24 ∷ 25 ∷ []) $ free1 ! $ move ! (22 ∷ 23 ∷ []) $ free1 ! $ move ! (20 ∷ 21 ∷ []) $ free1 ! $ move ! (18 ∷ 19 ∷ []) $ free1 ! $ move ! (16 ∷ 17 ∷ []) $ free1 ! $ move ! (14 ∷ 15 ∷ []) $ free1 ! $ move ! (12 ∷ 13 ∷ []) $ free1 ! $ move ! (10 ∷ 11 ∷ []) $ free1 ! $ move ! (8 ∷ 9 ∷ []) $ free1 ! $ move ! (6 ∷ 7 ∷ []) $ free1 ! $ free0 ! $ by ! (exits r e is)
 
       abbrev Start : List (Item 𝓤)
-      Start = ‵ (ShrOwn u8 κ k) ∷ ‵ (flft κ q) ∷ ‵ (ShrOwn Seg κ′ t) ∷ ‵ (flft κ′ q′) ∷ ‵ (ShrOwn u16 κ″ x) ∷ ‵ (flft κ″ q″) ∷ ‵ (froom tyBool l₁₁ 0) ∷ ‵ (fdies tyBool l₁₁) ∷ ‵ (froom Eva-ty l₁₀ 0) ∷ ‵ (fdies Eva-ty l₁₀) ∷ ‵ (froom Seg-ty l₉ 0) ∷ ‵ (fdies Seg-ty l₉) ∷ ‵ (froom (tyInt w64) l₈ 0) ∷ ‵ (fdies (tyInt w64) l₈) ∷ ‵ (froom Cho-ty l₇ 0) ∷ ‵ (fdies Cho-ty l₇) ∷ ‵ (froom Que-ty l₆ 0) ∷ ‵ (fdies Que-ty l₆) ∷ ‵ (fat fullShare Que-ty l₅ 0 (que y)) ∷ ‵ (fdies Que-ty l₅) ∷ ‵ (fat fullShare (tyInt w64) l₄ 0 (vint w64 n)) ∷ ‵ (fdies (tyInt w64) l₄) ∷ ‵ (fat fullShare X-ty l₃ 0 (xv)) ∷ ‵ (fdies X-ty l₃) ∷ ‵ (fat fullShare Tab₁-ty l₂ 0 (tv)) ∷ ‵ (fdies Tab₁-ty l₂) ∷ ‵ (fat fullShare K-ty l₁ 0 (kv)) ∷ ‵ (fdies K-ty l₁) ∷ ‵ (froom Ans-ty l₀ 0) ∷ ‵ (fdies Ans-ty l₀) ∷ []
+      Start = ‵ (ShrOwn u8 κ k) ∷ ‵ (flft κ q) ∷ ‵ (ShrOwn Seg κ′ t) ∷ ‵ (flft κ′ q′) ∷ ‵ (ShrOwn u16 κ″ x) ∷ ‵ (flft κ″ q″) ∷ ‵ (froom tyBool l₁₁ 0) ∷ ‵ (fdies tyBool l₁₁) ∷ ‵ (froom Yie-ty l₁₀ 0) ∷ ‵ (fdies Yie-ty l₁₀) ∷ ‵ (froom Seg-ty l₉ 0) ∷ ‵ (fdies Seg-ty l₉) ∷ ‵ (froom (tyInt w64) l₈ 0) ∷ ‵ (fdies (tyInt w64) l₈) ∷ ‵ (froom Cho-ty l₇ 0) ∷ ‵ (fdies Cho-ty l₇) ∷ ‵ (froom Que-ty l₆ 0) ∷ ‵ (fdies Que-ty l₆) ∷ ‵ (fat fullShare Que-ty l₅ 0 (que y)) ∷ ‵ (fdies Que-ty l₅) ∷ ‵ (fat fullShare (tyInt w64) l₄ 0 (vint w64 n)) ∷ ‵ (fdies (tyInt w64) l₄) ∷ ‵ (fat fullShare X-ty l₃ 0 (xv)) ∷ ‵ (fdies X-ty l₃) ∷ ‵ (fat fullShare Tab₁-ty l₂ 0 (tv)) ∷ ‵ (fdies Tab₁-ty l₂) ∷ ‵ (fat fullShare K-ty l₁ 0 (kv)) ∷ ‵ (fdies K-ty l₁) ∷ ‵ (froom Ans-ty l₀ 0) ∷ ‵ (fdies Ans-ty l₀) ∷ []
 
       goes : (b1 : Bool) → ltb i n ≡ b1 → Sq W Start (runs (𝓣 .C) (𝓣 .Λ) En body.t-1 (atRet En Post))
       goes true e1 =
@@ -146,7 +146,7 @@ module _ {M : Type 1} (𝓤 : URA M) (H : Heap 𝓤) (A : Atoms 𝓤) (W : Given
           (λ z. absurd z)
           (λ _. skips ! $ exec ! (𝓣 .C) (𝓣 .Λ) En body.t-6 (atRet En Post) $
           calls-chained-by 𝓤 H A mem run κ κ′ κ″ q q′ q″ k t x n y W fm known-chained-by within is-n is-y
-          (and-then ! (load ! (from ! (stop !)) (look ! 24 refl)) (and-then ! (load ! (from ! (stop !)) (look ! 22 refl)) (and-then ! (load ! (from ! (stop !)) (look ! 20 refl)) (and-then ! (load ! (from ! (stop !)) (look ! 18 refl)) (and-then ! (load ! (from ! (stop !)) (look ! 16 refl)) (no-more !)))))) (λ is-10. land ! (from ! (stop !)) (init ! 8 refl (eva-lawful 𝓤 H A W .typed (out-chained-by 𝓤 H A mem run κ κ′ κ″ q q′ q″ k t x n y) _ is-10 .0)) $
+          (and-then ! (load ! (from ! (stop !)) (look ! 24 refl)) (and-then ! (load ! (from ! (stop !)) (look ! 22 refl)) (and-then ! (load ! (from ! (stop !)) (look ! 20 refl)) (and-then ! (load ! (from ! (stop !)) (look ! 18 refl)) (and-then ! (load ! (from ! (stop !)) (look ! 16 refl)) (no-more !)))))) (λ is-10. land ! (from ! (stop !)) (init ! 8 refl (yie-lawful 𝓤 H A W .typed (out-chained-by 𝓤 H A mem run κ κ′ κ″ q q′ q″ k t x n y) _ is-10 .0)) $
           calls-by-chain 𝓤 H A mem run (chainedBy (evaluated Spk (k .now)) (t .now) n (x .now) y) W fm known-by-chain is-10
           (and-then ! (load ! (from ! (stop !)) (look ! 9 refl)) (no-more !)) (λ is-0. land ! (from ! (stop !)) (init ! 28 refl (ans-lawful 𝓤 H A W .typed (out-by-chain 𝓤 H A mem run (chainedBy (evaluated Spk (k .now)) (t .now) n (x .now) y)) _ is-0 .0)) $
           returns ! (look ! 28 refl) $ forget ! 6 refl $ forget ! 8 refl $ forget ! 12 refl $ forget ! 14 refl $ forget ! 16 refl $ forget ! 18 refl $ forget ! 20 refl $ forget ! 22 refl $ forget ! 24 refl $ forget ! 26 refl $ forget ! 28 refl $ ends (out-by-chain 𝓤 H A mem run (chainedBy (evaluated Spk (k .now)) (t .now) n (x .now) y)) (back-none (evaluated Spk (k .now)) (t .now) n (x .now) y (ltb-false i n e1)) is-0))))))

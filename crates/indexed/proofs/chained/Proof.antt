@@ -2,7 +2,7 @@
 -- Assumes nothing.
 use Rattle.lent.proofs.Walking.{ℕ, _≤_, Lft, Share, ftrue, flft, fat, froom, fdies, SProp, ent, Lfts, Fun, givenOf, tables, tablesOf, usize, u8, u32, yes, Is, pointee, uint-makes, uint-vals, uint-tells, owns, RefT, plain, sliceVal, ShrSlice, Room, slice-vals, shr-slice-tells, sliceTy, owned, nothing, Vals, onEntry, Meets, tripleOf, Triple, entered, cited, says, Stays, stay-none-slice, walkOf, goes-none-slice, Walks, ends-at, walked, walk-meets, needs, stay-none, goes-none, Atoms, fullShare, URA, lit<, length, Bool, true, false, List, [], _∷_, refl, _≡_, named, w64, w32, tyInt, tyBool, Ty, imm, w8, tyRef, Val, vint, vbool, Memory, Routine, Heap, WpFn, Tables, Env, WpFn-mono, FmC, fmOf, Given, ‵, _⊛_, _$_, _∵_, !, qed, by, move, suffices, frame, done, ⋆, keep, split, join, rewrite, fsplit, fjoin, Item, Sq, runs, atRet, frees, prop, look, init, forget, stop, from, load, of-opd, assigns, returns, enter, alloc1, alloc0, params1, pass1, pass0, free1, free0, lit, and-then, no-more, land, first, exec, branches, skips, returns-within}
 use Rattle.segment.specs.declared.Segment.{Segment}
-use Rattle.segment.specs.declared.Evaluated.{Evaluated}
+use Rattle.chain.specs.declared.Yielded.{Yielded}
 use Rattle.spk.specs.declared.Question.{Question}
 use Rattle.daf.specs.declared.Family.the-variants.{Spk}
 use Rattle.segment.specs.Evaluating.{evaluated}
@@ -21,7 +21,7 @@ use Rattle.spk.specs.Questions.{swapped}
 use Rattle.spk.specs.Asking.{legFrom}
 use Rattle.indexed.proofs.chained.Code.Mir as body
 use Rattle.lent.proofs.Seg.{Seg}
-use Rattle.lent.proofs.Rows.{Eva, Eva-ty, eva, eva-lawful, eva-makes, Nex-ty, nex-lawful, Que, Que-ty, que, que-tells, que-lawful, que-makes}
+use Rattle.lent.proofs.Rows.{Yie, Yie-ty, yie, yie-lawful, yie-makes, Nex-ty, nex-lawful, Que, Que-ty, que, que-tells, que-lawful, que-makes}
 use Rattle.lent.proofs.Calls.{ShrOwn}
 use Rattle.indexed.proofs.Calls.{the-walk-by, calls-walk-by, out-walk-by}
 use Rattle.lent.proofs.Calls.{the-start-of, the-is-failed, the-swapped, the-difference, calls-start-of, calls-is-failed, calls-swapped, calls-difference, out-start-of, out-swapped, out-difference}
@@ -74,13 +74,13 @@ module _ {M : Type 1} (𝓤 : URA M) (H : Heap 𝓤) (A : Atoms 𝓤) (W : Given
   abbrev Post : Val → SProp 𝓤
   Post = walkOf 𝓤 H A f.ended stayed (f.clauses 𝓤 H A mem run) .post ((κs, (q, (q′, (q″, tt))), tt, a₀, at), tt)
 
-  exits : (r : Evaluated) → r ≡ chainedBy (evaluated Spk (k .now)) (t .now) n (x .now) y → Is Eva r (eva r ∷ []) → ent 𝓤 (⋆ 𝓤 H A (‵ (ShrOwn u8 κ k) ∷ ‵ (flft κ q) ∷ ‵ (ShrOwn Seg κ′ t) ∷ ‵ (flft κ′ q′) ∷ ‵ (ShrOwn u16 κ″ x) ∷ ‵ (flft κ″ q″) ∷ [])) (Post (eva r))
+  exits : (r : Yielded) → r ≡ chainedBy (evaluated Spk (k .now)) (t .now) n (x .now) y → Is Yie r (yie r ∷ []) → ent 𝓤 (⋆ 𝓤 H A (‵ (ShrOwn u8 κ k) ∷ ‵ (flft κ q) ∷ ‵ (ShrOwn Seg κ′ t) ∷ ‵ (flft κ′ q′) ∷ ‵ (ShrOwn u16 κ″ x) ∷ ‵ (flft κ″ q″) ∷ [])) (Post (yie r))
   exits r e is =
       qed W (‵ (ShrOwn u8 κ k) ∷ ‵ (flft κ q) ∷ ‵ (ShrOwn Seg κ′ t) ∷ ‵ (flft κ′ q′) ∷ ‵ (ShrOwn u16 κ″ x) ∷ ‵ (flft κ″ q″) ∷ []) ∵
-      suffices ! _ (ends-at 𝓤 H A f.ended stayed (f.clauses 𝓤 H A mem run) W ((κs, (q, (q′, (q″, tt))), tt, a₀, at), tt) (eva r) r (tt, (tt, (tt, (tt, (tt, tt))))) (tt, (tt, (tt, (tt, (tt, tt)))))) $ says ! e $
+      suffices ! _ (ends-at 𝓤 H A f.ended stayed (f.clauses 𝓤 H A mem run) W ((κs, (q, (q′, (q″, tt))), tt, a₀, at), tt) (yie r) r (tt, (tt, (tt, (tt, (tt, tt))))) (tt, (tt, (tt, (tt, (tt, tt)))))) $ says ! e $
       nothing ! $ move ! (6 ∷ 0 ∷ []) $ join ! $ move ! (4 ∷ 0 ∷ []) $ join ! $ move ! (2 ∷ 0 ∷ []) $ join ! $ frame ! $
       nothing ! $ owned ! Que (Is Que) (que-makes 𝓤 H A W) y _ is-y $ fjoin ! $ owned ! usize (Is usize) (uint-makes 𝓤 H A W w64) n _ is-n $ fjoin ! $ move ! (3 ∷ 0 ∷ []) $ fjoin ! $ move ! (2 ∷ 0 ∷ []) $ fjoin ! $ move ! (1 ∷ 0 ∷ []) $ fjoin ! $
-      frame ! $ owned ! Eva (Is Eva) (eva-makes 𝓤 H A W) r _ is $ done !
+      frame ! $ owned ! Yie (Is Yie) (yie-makes 𝓤 H A W) r _ is $ done !
 
   is-limit : Is u32 chainLimit (vint w32 chainLimit ∷ [])
   is-limit = (refl, lit< tt)
@@ -100,34 +100,34 @@ module _ {M : Type 1} (𝓤 : URA M) (H : Heap 𝓤) (A : Atoms 𝓤) (W : Given
 
     module _ (l₀ l₁ l₂ l₃ l₄ l₅ l₆ l₇ l₈ l₉ l₁₀ l₁₁ : ℕ) where
       abbrev En : Env 𝓤 H
-      En = (Eva-ty, l₀) ∷ (K-ty, l₁) ∷ (Tab₁-ty, l₂) ∷ (X-ty, l₃) ∷ (tyInt w64, l₄) ∷ (Que-ty, l₅) ∷ (Nex-ty, l₆) ∷ (Eva-ty, l₇) ∷ (Que-ty, l₈) ∷ (Nex-ty, l₉) ∷ (Eva-ty, l₁₀) ∷ (tyBool, l₁₁) ∷ []
+      En = (Yie-ty, l₀) ∷ (K-ty, l₁) ∷ (Tab₁-ty, l₂) ∷ (X-ty, l₃) ∷ (tyInt w64, l₄) ∷ (Que-ty, l₅) ∷ (Nex-ty, l₆) ∷ (Yie-ty, l₇) ∷ (Que-ty, l₈) ∷ (Nex-ty, l₉) ∷ (Yie-ty, l₁₀) ∷ (tyBool, l₁₁) ∷ []
 
       -- the locals are freed
-      ends : (r : Evaluated) → r ≡ chainedBy (evaluated Spk (k .now)) (t .now) n (x .now) y → Is Eva r (eva r ∷ []) → Sq W (‵ (ShrOwn u8 κ k) ∷ ‵ (flft κ q) ∷ ‵ (ShrOwn Seg κ′ t) ∷ ‵ (flft κ′ q′) ∷ ‵ (ShrOwn u16 κ″ x) ∷ ‵ (flft κ″ q″) ∷ ‵ (froom tyBool l₁₁ 0) ∷ ‵ (fdies tyBool l₁₁) ∷ ‵ (froom Eva-ty l₁₀ 0) ∷ ‵ (fdies Eva-ty l₁₀) ∷ ‵ (froom Nex-ty l₉ 0) ∷ ‵ (fdies Nex-ty l₉) ∷ ‵ (froom Que-ty l₈ 0) ∷ ‵ (fdies Que-ty l₈) ∷ ‵ (froom Eva-ty l₇ 0) ∷ ‵ (fdies Eva-ty l₇) ∷ ‵ (froom Nex-ty l₆ 0) ∷ ‵ (fdies Nex-ty l₆) ∷ ‵ (froom Que-ty l₅ 0) ∷ ‵ (fdies Que-ty l₅) ∷ ‵ (froom (tyInt w64) l₄ 0) ∷ ‵ (fdies (tyInt w64) l₄) ∷ ‵ (froom X-ty l₃ 0) ∷ ‵ (fdies X-ty l₃) ∷ ‵ (froom Tab₁-ty l₂ 0) ∷ ‵ (fdies Tab₁-ty l₂) ∷ ‵ (froom K-ty l₁ 0) ∷ ‵ (fdies K-ty l₁) ∷ ‵ (froom Eva-ty l₀ 0) ∷ ‵ (fdies Eva-ty l₀) ∷ []) (frees En (prop (Post (eva r))))
+      ends : (r : Yielded) → r ≡ chainedBy (evaluated Spk (k .now)) (t .now) n (x .now) y → Is Yie r (yie r ∷ []) → Sq W (‵ (ShrOwn u8 κ k) ∷ ‵ (flft κ q) ∷ ‵ (ShrOwn Seg κ′ t) ∷ ‵ (flft κ′ q′) ∷ ‵ (ShrOwn u16 κ″ x) ∷ ‵ (flft κ″ q″) ∷ ‵ (froom tyBool l₁₁ 0) ∷ ‵ (fdies tyBool l₁₁) ∷ ‵ (froom Yie-ty l₁₀ 0) ∷ ‵ (fdies Yie-ty l₁₀) ∷ ‵ (froom Nex-ty l₉ 0) ∷ ‵ (fdies Nex-ty l₉) ∷ ‵ (froom Que-ty l₈ 0) ∷ ‵ (fdies Que-ty l₈) ∷ ‵ (froom Yie-ty l₇ 0) ∷ ‵ (fdies Yie-ty l₇) ∷ ‵ (froom Nex-ty l₆ 0) ∷ ‵ (fdies Nex-ty l₆) ∷ ‵ (froom Que-ty l₅ 0) ∷ ‵ (fdies Que-ty l₅) ∷ ‵ (froom (tyInt w64) l₄ 0) ∷ ‵ (fdies (tyInt w64) l₄) ∷ ‵ (froom X-ty l₃ 0) ∷ ‵ (fdies X-ty l₃) ∷ ‵ (froom Tab₁-ty l₂ 0) ∷ ‵ (fdies Tab₁-ty l₂) ∷ ‵ (froom K-ty l₁ 0) ∷ ‵ (fdies K-ty l₁) ∷ ‵ (froom Yie-ty l₀ 0) ∷ ‵ (fdies Yie-ty l₀) ∷ []) (frees En (prop (Post (yie r))))
       ends r e is =
           move ! (28 ∷ 29 ∷ []) $ free1 ! $ move ! (26 ∷ 27 ∷ []) $ free1 ! $ move ! (24 ∷ 25 ∷ []) $ free1 ! $ move ! (22 ∷ 23 ∷ []) $ free1 ! $ move ! (20 ∷ 21 ∷ []) $ free1 ! $ move ! (18 ∷ 19 ∷ []) $ free1 ! $ move ! (16 ∷ 17 ∷ []) $ free1 ! $ move ! (14 ∷ 15 ∷ []) $ free1 ! $ move ! (12 ∷ 13 ∷ []) $ free1 ! $ move ! (10 ∷ 11 ∷ []) $ free1 ! $ move ! (8 ∷ 9 ∷ []) $ free1 ! $ move ! (6 ∷ 7 ∷ []) $ free1 ! $ free0 ! $ by ! (exits r e is)
 
       abbrev Start : List (Item 𝓤)
-      Start = ‵ (ShrOwn u8 κ k) ∷ ‵ (flft κ q) ∷ ‵ (ShrOwn Seg κ′ t) ∷ ‵ (flft κ′ q′) ∷ ‵ (ShrOwn u16 κ″ x) ∷ ‵ (flft κ″ q″) ∷ ‵ (froom tyBool l₁₁ 0) ∷ ‵ (fdies tyBool l₁₁) ∷ ‵ (froom Eva-ty l₁₀ 0) ∷ ‵ (fdies Eva-ty l₁₀) ∷ ‵ (froom Nex-ty l₉ 0) ∷ ‵ (fdies Nex-ty l₉) ∷ ‵ (froom Que-ty l₈ 0) ∷ ‵ (fdies Que-ty l₈) ∷ ‵ (froom Eva-ty l₇ 0) ∷ ‵ (fdies Eva-ty l₇) ∷ ‵ (froom Nex-ty l₆ 0) ∷ ‵ (fdies Nex-ty l₆) ∷ ‵ (fat fullShare Que-ty l₅ 0 (que y)) ∷ ‵ (fdies Que-ty l₅) ∷ ‵ (fat fullShare (tyInt w64) l₄ 0 (vint w64 n)) ∷ ‵ (fdies (tyInt w64) l₄) ∷ ‵ (fat fullShare X-ty l₃ 0 (xv)) ∷ ‵ (fdies X-ty l₃) ∷ ‵ (fat fullShare Tab₁-ty l₂ 0 (tv)) ∷ ‵ (fdies Tab₁-ty l₂) ∷ ‵ (fat fullShare K-ty l₁ 0 (kv)) ∷ ‵ (fdies K-ty l₁) ∷ ‵ (froom Eva-ty l₀ 0) ∷ ‵ (fdies Eva-ty l₀) ∷ []
+      Start = ‵ (ShrOwn u8 κ k) ∷ ‵ (flft κ q) ∷ ‵ (ShrOwn Seg κ′ t) ∷ ‵ (flft κ′ q′) ∷ ‵ (ShrOwn u16 κ″ x) ∷ ‵ (flft κ″ q″) ∷ ‵ (froom tyBool l₁₁ 0) ∷ ‵ (fdies tyBool l₁₁) ∷ ‵ (froom Yie-ty l₁₀ 0) ∷ ‵ (fdies Yie-ty l₁₀) ∷ ‵ (froom Nex-ty l₉ 0) ∷ ‵ (fdies Nex-ty l₉) ∷ ‵ (froom Que-ty l₈ 0) ∷ ‵ (fdies Que-ty l₈) ∷ ‵ (froom Yie-ty l₇ 0) ∷ ‵ (fdies Yie-ty l₇) ∷ ‵ (froom Nex-ty l₆ 0) ∷ ‵ (fdies Nex-ty l₆) ∷ ‵ (fat fullShare Que-ty l₅ 0 (que y)) ∷ ‵ (fdies Que-ty l₅) ∷ ‵ (fat fullShare (tyInt w64) l₄ 0 (vint w64 n)) ∷ ‵ (fdies (tyInt w64) l₄) ∷ ‵ (fat fullShare X-ty l₃ 0 (xv)) ∷ ‵ (fdies X-ty l₃) ∷ ‵ (fat fullShare Tab₁-ty l₂ 0 (tv)) ∷ ‵ (fdies Tab₁-ty l₂) ∷ ‵ (fat fullShare K-ty l₁ 0 (kv)) ∷ ‵ (fdies K-ty l₁) ∷ ‵ (froom Yie-ty l₀ 0) ∷ ‵ (fdies Yie-ty l₀) ∷ []
 
       goes : (b1 : Bool) → isFailed (onBy (stepBy (evaluated Spk (k .now)) (t .now) n (firstOf (x .now)) (aboveOf (x .now))) chainLimit (begin (legFrom y))) ≡ b1 → Sq W Start (runs (𝓣 .C) (𝓣 .Λ) En body.t-1 (atRet En Post))
       goes true e1 =
           calls-start-of 𝓤 H A mem run y W fm known-start-of is-y
           (and-then ! (load ! (from ! (stop !)) (look ! 19 refl)) (no-more !)) (λ is-6. land ! (from ! (stop !)) (init ! 16 refl (nex-lawful 𝓤 H A W .typed (out-start-of 𝓤 H A mem run y) _ is-6 .0)) $
           calls-walk-by 𝓤 H A mem run κ κ′ κ″ q q′ q″ k t x n (begin (legFrom y)) chainLimit W fm known-walk-by within is-n is-6 is-limit
-          (and-then ! (load ! (from ! (stop !)) (look ! 24 refl)) (and-then ! (load ! (from ! (stop !)) (look ! 22 refl)) (and-then ! (load ! (from ! (stop !)) (look ! 20 refl)) (and-then ! (load ! (from ! (stop !)) (look ! 18 refl)) (and-then ! (load ! (from ! (stop !)) (look ! 14 refl)) (and-then ! (lit ! tt) (no-more !))))))) (λ is-7. land ! (from ! (stop !)) (init ! 14 refl (eva-lawful 𝓤 H A W .typed (out-walk-by 𝓤 H A mem run κ κ′ κ″ q q′ q″ k t x n (begin (legFrom y)) chainLimit) _ is-7 .0)) $
+          (and-then ! (load ! (from ! (stop !)) (look ! 24 refl)) (and-then ! (load ! (from ! (stop !)) (look ! 22 refl)) (and-then ! (load ! (from ! (stop !)) (look ! 20 refl)) (and-then ! (load ! (from ! (stop !)) (look ! 18 refl)) (and-then ! (load ! (from ! (stop !)) (look ! 14 refl)) (and-then ! (lit ! tt) (no-more !))))))) (λ is-7. land ! (from ! (stop !)) (init ! 14 refl (yie-lawful 𝓤 H A W .typed (out-walk-by 𝓤 H A mem run κ κ′ κ″ q q′ q″ k t x n (begin (legFrom y)) chainLimit) _ is-7 .0)) $
           calls-is-failed 𝓤 H A mem run (onBy (stepBy (evaluated Spk (k .now)) (t .now) n (firstOf (x .now)) (aboveOf (x .now))) chainLimit (begin (legFrom y))) W fm known-is-failed is-7
           (and-then ! (load ! (from ! (stop !)) (look ! 15 refl)) (no-more !)) (λ is-11. land ! (from ! (stop !)) (init ! 6 refl (tt, tt)) $
           rewrite ! 6 (λ (b : Bool). ‵ (fat fullShare tyBool l₁₁ 0 (vbool b))) e1 refl $ first ! $ branches ! (load ! (from ! (stop !)) (look ! 6 refl))
           (λ _.
-          assigns ! (of-opd ! (load ! (from ! (stop !)) (look ! 14 refl))) (from ! (stop !)) (init ! 28 refl (eva-lawful 𝓤 H A W .typed (onBy (stepBy (evaluated Spk (k .now)) (t .now) n (firstOf (x .now)) (aboveOf (x .now))) chainLimit (begin (legFrom y))) _ is-7 .0)) $
+          assigns ! (of-opd ! (load ! (from ! (stop !)) (look ! 14 refl))) (from ! (stop !)) (init ! 28 refl (yie-lawful 𝓤 H A W .typed (onBy (stepBy (evaluated Spk (k .now)) (t .now) n (firstOf (x .now)) (aboveOf (x .now))) chainLimit (begin (legFrom y))) _ is-7 .0)) $
           returns-within ! Post refl (look ! 28 refl) $ forget ! 6 refl $ forget ! 14 refl $ forget ! 16 refl $ forget ! 18 refl $ forget ! 20 refl $ forget ! 22 refl $ forget ! 24 refl $ forget ! 26 refl $ forget ! 28 refl $ ends (onBy (stepBy (evaluated Spk (k .now)) (t .now) n (firstOf (x .now)) (aboveOf (x .now))) chainLimit (begin (legFrom y))) (chained-failed (evaluated Spk (k .now)) (t .now) n (x .now) y e1) is-7)
           (λ z. absurd z))))
       goes false e1 =
           calls-start-of 𝓤 H A mem run y W fm known-start-of is-y
           (and-then ! (load ! (from ! (stop !)) (look ! 19 refl)) (no-more !)) (λ is-6. land ! (from ! (stop !)) (init ! 16 refl (nex-lawful 𝓤 H A W .typed (out-start-of 𝓤 H A mem run y) _ is-6 .0)) $
           calls-walk-by 𝓤 H A mem run κ κ′ κ″ q q′ q″ k t x n (begin (legFrom y)) chainLimit W fm known-walk-by within is-n is-6 is-limit
-          (and-then ! (load ! (from ! (stop !)) (look ! 24 refl)) (and-then ! (load ! (from ! (stop !)) (look ! 22 refl)) (and-then ! (load ! (from ! (stop !)) (look ! 20 refl)) (and-then ! (load ! (from ! (stop !)) (look ! 18 refl)) (and-then ! (load ! (from ! (stop !)) (look ! 14 refl)) (and-then ! (lit ! tt) (no-more !))))))) (λ is-7. land ! (from ! (stop !)) (init ! 14 refl (eva-lawful 𝓤 H A W .typed (out-walk-by 𝓤 H A mem run κ κ′ κ″ q q′ q″ k t x n (begin (legFrom y)) chainLimit) _ is-7 .0)) $
+          (and-then ! (load ! (from ! (stop !)) (look ! 24 refl)) (and-then ! (load ! (from ! (stop !)) (look ! 22 refl)) (and-then ! (load ! (from ! (stop !)) (look ! 20 refl)) (and-then ! (load ! (from ! (stop !)) (look ! 18 refl)) (and-then ! (load ! (from ! (stop !)) (look ! 14 refl)) (and-then ! (lit ! tt) (no-more !))))))) (λ is-7. land ! (from ! (stop !)) (init ! 14 refl (yie-lawful 𝓤 H A W .typed (out-walk-by 𝓤 H A mem run κ κ′ κ″ q q′ q″ k t x n (begin (legFrom y)) chainLimit) _ is-7 .0)) $
           calls-is-failed 𝓤 H A mem run (onBy (stepBy (evaluated Spk (k .now)) (t .now) n (firstOf (x .now)) (aboveOf (x .now))) chainLimit (begin (legFrom y))) W fm known-is-failed is-7
           (and-then ! (load ! (from ! (stop !)) (look ! 15 refl)) (no-more !)) (λ is-11. land ! (from ! (stop !)) (init ! 6 refl (tt, tt)) $
           rewrite ! 6 (λ (b : Bool). ‵ (fat fullShare tyBool l₁₁ 0 (vbool b))) e1 refl $ first ! $ branches ! (load ! (from ! (stop !)) (look ! 6 refl))
@@ -138,9 +138,9 @@ module _ {M : Type 1} (𝓤 : URA M) (H : Heap 𝓤) (A : Atoms 𝓤) (W : Given
           calls-start-of 𝓤 H A mem run (swapped y) W fm known-start-of is-8
           (and-then ! (load ! (from ! (stop !)) (look ! 13 refl)) (no-more !)) (λ is-9. land ! (from ! (stop !)) (init ! 10 refl (nex-lawful 𝓤 H A W .typed (out-start-of 𝓤 H A mem run (swapped y)) _ is-9 .0)) $
           calls-walk-by 𝓤 H A mem run κ κ′ κ″ q q′ q″ k t x n (begin (legFrom (swapped y))) chainLimit W fm known-walk-by within is-n is-9 is-limit
-          (and-then ! (load ! (from ! (stop !)) (look ! 24 refl)) (and-then ! (load ! (from ! (stop !)) (look ! 22 refl)) (and-then ! (load ! (from ! (stop !)) (look ! 20 refl)) (and-then ! (load ! (from ! (stop !)) (look ! 18 refl)) (and-then ! (load ! (from ! (stop !)) (look ! 8 refl)) (and-then ! (lit ! tt) (no-more !))))))) (λ is-10. land ! (from ! (stop !)) (init ! 8 refl (eva-lawful 𝓤 H A W .typed (out-walk-by 𝓤 H A mem run κ κ′ κ″ q q′ q″ k t x n (begin (legFrom (swapped y))) chainLimit) _ is-10 .0)) $
+          (and-then ! (load ! (from ! (stop !)) (look ! 24 refl)) (and-then ! (load ! (from ! (stop !)) (look ! 22 refl)) (and-then ! (load ! (from ! (stop !)) (look ! 20 refl)) (and-then ! (load ! (from ! (stop !)) (look ! 18 refl)) (and-then ! (load ! (from ! (stop !)) (look ! 8 refl)) (and-then ! (lit ! tt) (no-more !))))))) (λ is-10. land ! (from ! (stop !)) (init ! 8 refl (yie-lawful 𝓤 H A W .typed (out-walk-by 𝓤 H A mem run κ κ′ κ″ q q′ q″ k t x n (begin (legFrom (swapped y))) chainLimit) _ is-10 .0)) $
           calls-difference 𝓤 H A mem run (onBy (stepBy (evaluated Spk (k .now)) (t .now) n (firstOf (x .now)) (aboveOf (x .now))) chainLimit (begin (legFrom y))) (onBy (stepBy (evaluated Spk (k .now)) (t .now) n (firstOf (x .now)) (aboveOf (x .now))) chainLimit (begin (legFrom (swapped y)))) W fm known-difference is-7 is-10
-          (and-then ! (load ! (from ! (stop !)) (look ! 15 refl)) (and-then ! (load ! (from ! (stop !)) (look ! 9 refl)) (no-more !))) (λ is-0. land ! (from ! (stop !)) (init ! 28 refl (eva-lawful 𝓤 H A W .typed (out-difference 𝓤 H A mem run (onBy (stepBy (evaluated Spk (k .now)) (t .now) n (firstOf (x .now)) (aboveOf (x .now))) chainLimit (begin (legFrom y))) (onBy (stepBy (evaluated Spk (k .now)) (t .now) n (firstOf (x .now)) (aboveOf (x .now))) chainLimit (begin (legFrom (swapped y))))) _ is-0 .0)) $
+          (and-then ! (load ! (from ! (stop !)) (look ! 15 refl)) (and-then ! (load ! (from ! (stop !)) (look ! 9 refl)) (no-more !))) (λ is-0. land ! (from ! (stop !)) (init ! 28 refl (yie-lawful 𝓤 H A W .typed (out-difference 𝓤 H A mem run (onBy (stepBy (evaluated Spk (k .now)) (t .now) n (firstOf (x .now)) (aboveOf (x .now))) chainLimit (begin (legFrom y))) (onBy (stepBy (evaluated Spk (k .now)) (t .now) n (firstOf (x .now)) (aboveOf (x .now))) chainLimit (begin (legFrom (swapped y))))) _ is-0 .0)) $
           returns ! (look ! 28 refl) $ forget ! 6 refl $ forget ! 8 refl $ forget ! 10 refl $ forget ! 12 refl $ forget ! 14 refl $ forget ! 16 refl $ forget ! 18 refl $ forget ! 20 refl $ forget ! 22 refl $ forget ! 24 refl $ forget ! 26 refl $ forget ! 28 refl $ ends (out-difference 𝓤 H A mem run (onBy (stepBy (evaluated Spk (k .now)) (t .now) n (firstOf (x .now)) (aboveOf (x .now))) chainLimit (begin (legFrom y))) (onBy (stepBy (evaluated Spk (k .now)) (t .now) n (firstOf (x .now)) (aboveOf (x .now))) chainLimit (begin (legFrom (swapped y))))) (chained-told (evaluated Spk (k .now)) (t .now) n (x .now) y) is-0))))))))
 
     walk : ent 𝓤 (onEntry 𝓤 H A f.signature κs (q, (q′, (q″, tt))) a₀ at) (WpFn 𝓤 H (𝓣 .C) (𝓣 .Λ) code.function (kv ∷ tv ∷ xv ∷ vint w64 n ∷ que y ∷ []) Post)

@@ -3,7 +3,7 @@
 -- Assumes nothing.
 use Rattle.lent.proofs.Walking.{ℕ, _<_, _^_, suc, _≤_, _-_, zero, Lft, Share, ftrue, flft, fat, froom, fdies, SProp, ent, Fun, givenOf, tables, tablesOf, usize, u8, u32, yes, Is, pointee, uint-makes, uint-vals, uint-tells, owns, RefT, plain, sliceVal, ShrSlice, Room, slice-vals, shr-slice-tells, sliceTy, owned, nothing, onEntry, Triple, cited, says, Stays, stay-none-slice, walkOf, goes-none-slice, ends-at, needs, stay-none, goes-none, walked-at, walk-meets-at, Atoms, fullShare, URA, eqb·suc-zero, length, Nat·lt-wfRel, Bool, true, List, [], _∷_, refl, sym, subst, _≡_, _∙_, named, w64, w32, tyInt, tyBool, Ty, imm, w8, tyRef, Val, vint, vbool, sub-zero, suc-sub-suc, zero-lt-suc, lt-suc-self, arith, Memory, Routine, Heap, WpFn, Tables, Env, Closed, WpFn-mono, FmC, fmOf, Given, ‵, _⊛_, _$_, _∵_, !, qed, by, move, suffices, frame, done, ⋆, keep, split, join, rewrite, fsplit, fjoin, Item, Sq, runs, atRet, frees, prop, look, init, forget, stop, from, load, assigns, returns, enter, alloc1, alloc0, params1, pass1, pass0, free1, free0, lit, bin, and-then, no-more, land, first, exec, branches, skips, returns-within}
 use Rattle.segment.specs.declared.Segment.{Segment}
-use Rattle.segment.specs.declared.Evaluated.{Evaluated}
+use Rattle.chain.specs.declared.Yielded.{Yielded}
 use Rattle.chain.specs.declared.Leg.{Leg}
 use Rattle.chain.specs.declared.Next.{Next}
 use Rattle.daf.specs.declared.Family.the-variants.{Spk}
@@ -16,7 +16,7 @@ use Rattle.chain.specs.Step.{stepFrom}
 use Rattle.chain.specs.Walk.{advance}
 use Rattle.chain.specs.Steps.{isOver, endOf}
 use Rattle.lent.proofs.Seg.{Seg}
-use Rattle.lent.proofs.Rows.{Eva, Eva-ty, eva, eva-lawful, eva-makes, Lg-ty, leg-lawful, Nex, Nex-ty, nex, nex-tells, nex-lawful, nex-makes, Stp-ty, stp-lawful}
+use Rattle.lent.proofs.Rows.{Yie, Yie-ty, yie, yie-lawful, yie-makes, Lg-ty, leg-lawful, Nex, Nex-ty, nex, nex-tells, nex-lawful, nex-makes, Stp-ty, stp-lawful}
 use Rattle.lent.proofs.Calls.{ShrOwn, the-walk, to-walk, recurs-walk, the-is-over, the-end-of, the-leg-of, the-step, the-advance, calls-is-over, calls-end-of, calls-leg-of, calls-step, calls-advance, out-end-of, out-leg-of, out-step, out-advance}
 use Rattle.chain.proofs.is_over.Symbol as d-is-over
 use Rattle.chain.proofs.is_over.Symbol.{name as #is-over}
@@ -58,19 +58,19 @@ module _ {M : Type 1} (𝓤 : URA M) (H : Heap 𝓤) (A : Atoms 𝓤) (mem : Mem
     abbrev to : Next → ℕ → the-walk 𝓤 H A mem run .Ghost
     to a w = to-walk 𝓤 H A mem run κ κ′ q q′ k t n a w
 
-    abbrev comes : Next → ℕ → Evaluated
+    abbrev comes : Next → ℕ → Yielded
     comes a w = ahead (evaluated Spk (k .now)) (t .now) n w a
 
     abbrev Post : Next → ℕ → Val → SProp 𝓤
     Post a w = walkOf 𝓤 H A f.ended stayed (f.clauses 𝓤 H A mem run) .post (to a w)
 
-    exits : (a : Next) (w : ℕ) → Is Nex a (nex a ∷ []) → Is u32 w (vint w32 w ∷ []) → (r : Evaluated) → r ≡ comes a w → Is Eva r (eva r ∷ []) → ent 𝓤 (⋆ 𝓤 H A (‵ (ShrOwn u8 κ k) ∷ ‵ (flft κ q) ∷ ‵ (ShrOwn Seg κ′ t) ∷ ‵ (flft κ′ q′) ∷ [])) (Post a w (eva r))
+    exits : (a : Next) (w : ℕ) → Is Nex a (nex a ∷ []) → Is u32 w (vint w32 w ∷ []) → (r : Yielded) → r ≡ comes a w → Is Yie r (yie r ∷ []) → ent 𝓤 (⋆ 𝓤 H A (‵ (ShrOwn u8 κ k) ∷ ‵ (flft κ q) ∷ ‵ (ShrOwn Seg κ′ t) ∷ ‵ (flft κ′ q′) ∷ [])) (Post a w (yie r))
     exits a w is-a is-w r e is =
         qed W (‵ (ShrOwn u8 κ k) ∷ ‵ (flft κ q) ∷ ‵ (ShrOwn Seg κ′ t) ∷ ‵ (flft κ′ q′) ∷ []) ∵
-        suffices ! _ (ends-at 𝓤 H A f.ended stayed (f.clauses 𝓤 H A mem run) W (to a w) (eva r) r (tt, (tt, (tt, (tt, (tt, tt))))) (tt, (tt, (tt, (tt, (tt, tt)))))) $ says ! e $
+        suffices ! _ (ends-at 𝓤 H A f.ended stayed (f.clauses 𝓤 H A mem run) W (to a w) (yie r) r (tt, (tt, (tt, (tt, (tt, tt))))) (tt, (tt, (tt, (tt, (tt, tt)))))) $ says ! e $
         nothing ! $ move ! (4 ∷ 0 ∷ []) $ join ! $ move ! (2 ∷ 0 ∷ []) $ join ! $ frame ! $
         nothing ! $ owned ! u32 (Is u32) (uint-makes 𝓤 H A W w32) w _ is-w $ fjoin ! $ owned ! Nex (Is Nex) (nex-makes 𝓤 H A W) a _ is-a $ fjoin ! $ owned ! usize (Is usize) (uint-makes 𝓤 H A W w64) n _ is-n $ fjoin ! $ move ! (2 ∷ 0 ∷ []) $ fjoin ! $ move ! (1 ∷ 0 ∷ []) $ fjoin ! $
-        frame ! $ owned ! Eva (Is Eva) (eva-makes 𝓤 H A W) r _ is $ done !
+        frame ! $ owned ! Yie (Is Yie) (yie-makes 𝓤 H A W) r _ is $ done !
 
     abbrev K-ty : Ty
     K-ty = sliceTy (tyRef (named 0) imm (tyInt w8))
@@ -88,14 +88,14 @@ module _ {M : Type 1} (𝓤 : URA M) (H : Heap 𝓤) (A : Atoms 𝓤) (mem : Mem
 
       module _ (l₀ l₁ l₂ l₃ l₄ l₅ l₆ l₇ l₈ l₉ l₁₀ : ℕ) where
         abbrev En : Env 𝓤 H
-        En = (Eva-ty, l₀) ∷ (K-ty, l₁) ∷ (Tab₁-ty, l₂) ∷ (tyInt w64, l₃) ∷ (Nex-ty, l₄) ∷ (tyInt w32, l₅) ∷ (Lg-ty, l₆) ∷ (Stp-ty, l₇) ∷ (Nex-ty, l₈) ∷ (tyInt w32, l₉) ∷ (tyBool, l₁₀) ∷ []
+        En = (Yie-ty, l₀) ∷ (K-ty, l₁) ∷ (Tab₁-ty, l₂) ∷ (tyInt w64, l₃) ∷ (Nex-ty, l₄) ∷ (tyInt w32, l₅) ∷ (Lg-ty, l₆) ∷ (Stp-ty, l₇) ∷ (Nex-ty, l₈) ∷ (tyInt w32, l₉) ∷ (tyBool, l₁₀) ∷ []
 
-        ends : (a : Next) (w : ℕ) → Is Nex a (nex a ∷ []) → Is u32 w (vint w32 w ∷ []) → (r : Evaluated) → r ≡ comes a w → Is Eva r (eva r ∷ []) → Sq W (‵ (ShrOwn u8 κ k) ∷ ‵ (flft κ q) ∷ ‵ (ShrOwn Seg κ′ t) ∷ ‵ (flft κ′ q′) ∷ ‵ (froom tyBool l₁₀ 0) ∷ ‵ (fdies tyBool l₁₀) ∷ ‵ (froom (tyInt w32) l₉ 0) ∷ ‵ (fdies (tyInt w32) l₉) ∷ ‵ (froom Nex-ty l₈ 0) ∷ ‵ (fdies Nex-ty l₈) ∷ ‵ (froom Stp-ty l₇ 0) ∷ ‵ (fdies Stp-ty l₇) ∷ ‵ (froom Lg-ty l₆ 0) ∷ ‵ (fdies Lg-ty l₆) ∷ ‵ (froom (tyInt w32) l₅ 0) ∷ ‵ (fdies (tyInt w32) l₅) ∷ ‵ (froom Nex-ty l₄ 0) ∷ ‵ (fdies Nex-ty l₄) ∷ ‵ (froom (tyInt w64) l₃ 0) ∷ ‵ (fdies (tyInt w64) l₃) ∷ ‵ (froom Tab₁-ty l₂ 0) ∷ ‵ (fdies Tab₁-ty l₂) ∷ ‵ (froom K-ty l₁ 0) ∷ ‵ (fdies K-ty l₁) ∷ ‵ (froom Eva-ty l₀ 0) ∷ ‵ (fdies Eva-ty l₀) ∷ []) (frees En (prop (Post a w (eva r))))
+        ends : (a : Next) (w : ℕ) → Is Nex a (nex a ∷ []) → Is u32 w (vint w32 w ∷ []) → (r : Yielded) → r ≡ comes a w → Is Yie r (yie r ∷ []) → Sq W (‵ (ShrOwn u8 κ k) ∷ ‵ (flft κ q) ∷ ‵ (ShrOwn Seg κ′ t) ∷ ‵ (flft κ′ q′) ∷ ‵ (froom tyBool l₁₀ 0) ∷ ‵ (fdies tyBool l₁₀) ∷ ‵ (froom (tyInt w32) l₉ 0) ∷ ‵ (fdies (tyInt w32) l₉) ∷ ‵ (froom Nex-ty l₈ 0) ∷ ‵ (fdies Nex-ty l₈) ∷ ‵ (froom Stp-ty l₇ 0) ∷ ‵ (fdies Stp-ty l₇) ∷ ‵ (froom Lg-ty l₆ 0) ∷ ‵ (fdies Lg-ty l₆) ∷ ‵ (froom (tyInt w32) l₅ 0) ∷ ‵ (fdies (tyInt w32) l₅) ∷ ‵ (froom Nex-ty l₄ 0) ∷ ‵ (fdies Nex-ty l₄) ∷ ‵ (froom (tyInt w64) l₃ 0) ∷ ‵ (fdies (tyInt w64) l₃) ∷ ‵ (froom Tab₁-ty l₂ 0) ∷ ‵ (fdies Tab₁-ty l₂) ∷ ‵ (froom K-ty l₁ 0) ∷ ‵ (fdies K-ty l₁) ∷ ‵ (froom Yie-ty l₀ 0) ∷ ‵ (fdies Yie-ty l₀) ∷ []) (frees En (prop (Post a w (yie r))))
         ends a w is-a is-w r e is =
             move ! (24 ∷ 25 ∷ []) $ free1 ! $ move ! (22 ∷ 23 ∷ []) $ free1 ! $ move ! (20 ∷ 21 ∷ []) $ free1 ! $ move ! (18 ∷ 19 ∷ []) $ free1 ! $ move ! (16 ∷ 17 ∷ []) $ free1 ! $ move ! (14 ∷ 15 ∷ []) $ free1 ! $ move ! (12 ∷ 13 ∷ []) $ free1 ! $ move ! (10 ∷ 11 ∷ []) $ free1 ! $ move ! (8 ∷ 9 ∷ []) $ free1 ! $ move ! (6 ∷ 7 ∷ []) $ free1 ! $ move ! (4 ∷ 5 ∷ []) $ free1 ! $ free0 ! $ by ! (exits a w is-a is-w r e is)
 
         abbrev Start : Next → ℕ → List (Item 𝓤)
-        Start a w = ‵ (ShrOwn u8 κ k) ∷ ‵ (flft κ q) ∷ ‵ (ShrOwn Seg κ′ t) ∷ ‵ (flft κ′ q′) ∷ ‵ (froom tyBool l₁₀ 0) ∷ ‵ (fdies tyBool l₁₀) ∷ ‵ (froom (tyInt w32) l₉ 0) ∷ ‵ (fdies (tyInt w32) l₉) ∷ ‵ (froom Nex-ty l₈ 0) ∷ ‵ (fdies Nex-ty l₈) ∷ ‵ (froom Stp-ty l₇ 0) ∷ ‵ (fdies Stp-ty l₇) ∷ ‵ (froom Lg-ty l₆ 0) ∷ ‵ (fdies Lg-ty l₆) ∷ ‵ (fat fullShare (tyInt w32) l₅ 0 (vint w32 w)) ∷ ‵ (fdies (tyInt w32) l₅) ∷ ‵ (fat fullShare Nex-ty l₄ 0 (nex a)) ∷ ‵ (fdies Nex-ty l₄) ∷ ‵ (fat fullShare (tyInt w64) l₃ 0 (vint w64 n)) ∷ ‵ (fdies (tyInt w64) l₃) ∷ ‵ (fat fullShare Tab₁-ty l₂ 0 (tv)) ∷ ‵ (fdies Tab₁-ty l₂) ∷ ‵ (fat fullShare K-ty l₁ 0 (kv)) ∷ ‵ (fdies K-ty l₁) ∷ ‵ (froom Eva-ty l₀ 0) ∷ ‵ (fdies Eva-ty l₀) ∷ []
+        Start a w = ‵ (ShrOwn u8 κ k) ∷ ‵ (flft κ q) ∷ ‵ (ShrOwn Seg κ′ t) ∷ ‵ (flft κ′ q′) ∷ ‵ (froom tyBool l₁₀ 0) ∷ ‵ (fdies tyBool l₁₀) ∷ ‵ (froom (tyInt w32) l₉ 0) ∷ ‵ (fdies (tyInt w32) l₉) ∷ ‵ (froom Nex-ty l₈ 0) ∷ ‵ (fdies Nex-ty l₈) ∷ ‵ (froom Stp-ty l₇ 0) ∷ ‵ (fdies Stp-ty l₇) ∷ ‵ (froom Lg-ty l₆ 0) ∷ ‵ (fdies Lg-ty l₆) ∷ ‵ (fat fullShare (tyInt w32) l₅ 0 (vint w32 w)) ∷ ‵ (fdies (tyInt w32) l₅) ∷ ‵ (fat fullShare Nex-ty l₄ 0 (nex a)) ∷ ‵ (fdies Nex-ty l₄) ∷ ‵ (fat fullShare (tyInt w64) l₃ 0 (vint w64 n)) ∷ ‵ (fdies (tyInt w64) l₃) ∷ ‵ (fat fullShare Tab₁-ty l₂ 0 (tv)) ∷ ‵ (fdies Tab₁-ty l₂) ∷ ‵ (fat fullShare K-ty l₁ 0 (kv)) ∷ ‵ (fdies K-ty l₁) ∷ ‵ (froom Yie-ty l₀ 0) ∷ ‵ (fdies Yie-ty l₀) ∷ []
 
         -- a walk that is over
         stops : (a : Next) (w : ℕ) → Is Nex a (nex a ∷ []) → Is u32 w (vint w32 w ∷ []) → isOver a w ≡ true → endOf a ≡ comes a w → Sq W (Start a w) (runs (𝓣 .C) (𝓣 .Λ) En body.t-1 (atRet En (Post a w)))
@@ -104,7 +104,7 @@ module _ {M : Type 1} (𝓤 : URA M) (H : Heap 𝓤) (A : Atoms 𝓤) (mem : Mem
             (and-then ! (load ! (from ! (stop !)) (look ! 17 refl)) (and-then ! (load ! (from ! (stop !)) (look ! 15 refl)) (no-more !))) (λ is-b. land ! (from ! (stop !)) (init ! 4 refl (tt, tt)) $
             rewrite ! 4 (λ (b : Bool). ‵ (fat fullShare tyBool l₁₀ 0 (vbool b))) over refl $ first ! $ branches ! (load ! (from ! (stop !)) (look ! 4 refl))
             (λ _. calls-end-of 𝓤 H A mem run a W fm known-end-of is-a
-            (and-then ! (load ! (from ! (stop !)) (look ! 17 refl)) (no-more !)) (λ is-0. land ! (from ! (stop !)) (init ! 24 refl (eva-lawful 𝓤 H A W .typed (out-end-of 𝓤 H A mem run a) _ is-0 .0)) $
+            (and-then ! (load ! (from ! (stop !)) (look ! 17 refl)) (no-more !)) (λ is-0. land ! (from ! (stop !)) (init ! 24 refl (yie-lawful 𝓤 H A W .typed (out-end-of 𝓤 H A mem run a) _ is-0 .0)) $
             returns-within ! (Post a w) refl (look ! 24 refl) $ forget ! 4 refl $ forget ! 14 refl $ forget ! 16 refl $ forget ! 18 refl $ forget ! 20 refl $ forget ! 22 refl $ forget ! 24 refl $ ends a w is-a is-w (endOf a) e is-0))
             (λ z. absurd z))
 
@@ -128,7 +128,7 @@ module _ {M : Type 1} (𝓤 : URA M) (H : Heap 𝓤) (A : Atoms 𝓤) (mem : Mem
             assigns ! (bin ! (load ! (from ! (stop !)) (look ! 14 refl)) (lit ! tt) (zero-lt-suc m)) (from ! (stop !)) (init ! 6 refl (tt, record { fits = subst (λ (j : ℕ). j < 2 ^ 32) (sym (less-one m)) m-fits })) $
             rewrite ! 6 (λ (j : ℕ). ‵ (fat fullShare (tyInt w32) l₉ 0 (vint w32 j))) (less-one m) refl $
             recurs-walk 𝓤 H A mem run κ κ′ q q′ k t n on m W fm (smaller m (lt-suc-self m) on) within is-n is-8 is-m
-            (and-then ! (load ! (from ! (stop !)) (look ! 21 refl)) (and-then ! (load ! (from ! (stop !)) (look ! 19 refl)) (and-then ! (load ! (from ! (stop !)) (look ! 17 refl)) (and-then ! (load ! (from ! (stop !)) (look ! 7 refl)) (and-then ! (load ! (from ! (stop !)) (look ! 5 refl)) (no-more !)))))) (λ is-0. land ! (from ! (stop !)) (init ! 24 refl (eva-lawful 𝓤 H A W .typed (comes on m) _ is-0 .0)) $
+            (and-then ! (load ! (from ! (stop !)) (look ! 21 refl)) (and-then ! (load ! (from ! (stop !)) (look ! 19 refl)) (and-then ! (load ! (from ! (stop !)) (look ! 17 refl)) (and-then ! (load ! (from ! (stop !)) (look ! 7 refl)) (and-then ! (load ! (from ! (stop !)) (look ! 5 refl)) (no-more !)))))) (λ is-0. land ! (from ! (stop !)) (init ! 24 refl (yie-lawful 𝓤 H A W .typed (comes on m) _ is-0 .0)) $
             returns ! (look ! 24 refl) $ forget ! 4 refl $ forget ! 6 refl $ forget ! 8 refl $ forget ! 10 refl $ forget ! 12 refl $ forget ! 14 refl $ forget ! 16 refl $ forget ! 18 refl $ forget ! 20 refl $ forget ! 22 refl $ forget ! 24 refl $ ends (Onward g) (suc m) is-a is-w (comes on m) (ahead-step (evaluated Spk (k .now)) (t .now) n g m) is-0))))))
 
         takes : (a : Next) (w : ℕ) → Is Nex a (nex a ∷ []) → Is u32 w (vint w32 w ∷ []) → ((j : ℕ) → j < w → Smaller j) → Sq W (Start a w) (runs (𝓣 .C) (𝓣 .Λ) En body.t-1 (atRet En (Post a w)))

@@ -18,7 +18,7 @@ use Rattle.spk.specs.Asking as asking
 use Rattle.spk.specs.Asking.{answerTo}
 use Rattle.lent.proofs.backward.Code.Mir as body
 use Rattle.lent.proofs.Seg.{Seg, Seg-ty, lawful}
-use Rattle.lent.proofs.Rows.{Ans, Ans-ty, ans, ans-lawful, ans-makes, Cho-ty, cho-lawful, Eva-ty, eva-lawful, Que, Que-ty, que, que-tells, que-lawful, que-makes}
+use Rattle.lent.proofs.Rows.{Ans, Ans-ty, ans, ans-lawful, ans-makes, Cho-ty, cho-lawful, Yie-ty, yie-lawful, Que, Que-ty, que, que-tells, que-lawful, que-makes}
 use Rattle.lent.proofs.Calls.{ShrOwn}
 use Rattle.lent.proofs.Calls.{the-swapped, the-last-hit, the-place-in, the-segment-at, the-reversed, the-chained, the-by-chain, calls-swapped, calls-last-hit, calls-place-in, calls-segment-at, calls-reversed, calls-chained, calls-by-chain, out-swapped, out-last-hit, out-segment-at, out-reversed, out-chained, out-by-chain}
 use Rattle.spk.proofs.Question.swapped.Symbol as d-swapped
@@ -99,15 +99,15 @@ module _ {M : Type 1} (𝓤 : URA M) (H : Heap 𝓤) (A : Atoms 𝓤) (W : Given
 
     module _ (l₀ l₁ l₂ l₃ l₄ l₅ l₆ l₇ l₈ l₉ l₁₀ : ℕ) where
       abbrev En : Env 𝓤 H
-      En = (Ans-ty, l₀) ∷ (K-ty, l₁) ∷ (Tab₁-ty, l₂) ∷ (tyInt w64, l₃) ∷ (Que-ty, l₄) ∷ (Que-ty, l₅) ∷ (Cho-ty, l₆) ∷ (tyInt w64, l₇) ∷ (Seg-ty, l₈) ∷ (Eva-ty, l₉) ∷ (tyBool, l₁₀) ∷ []
+      En = (Ans-ty, l₀) ∷ (K-ty, l₁) ∷ (Tab₁-ty, l₂) ∷ (tyInt w64, l₃) ∷ (Que-ty, l₄) ∷ (Que-ty, l₅) ∷ (Cho-ty, l₆) ∷ (tyInt w64, l₇) ∷ (Seg-ty, l₈) ∷ (Yie-ty, l₉) ∷ (tyBool, l₁₀) ∷ []
 
       -- the locals are freed
-      ends : (r : Answer) → r ≡ answerTo (asking.backward (evaluated Spk (k .now)) (t .now) n x (lastReversed (t .now) n x)) → Is Ans r (ans r ∷ []) → Sq W (‵ (ShrOwn u8 κ k) ∷ ‵ (flft κ q) ∷ ‵ (ShrOwn Seg κ′ t) ∷ ‵ (flft κ′ q′) ∷ ‵ (froom tyBool l₁₀ 0) ∷ ‵ (fdies tyBool l₁₀) ∷ ‵ (froom Eva-ty l₉ 0) ∷ ‵ (fdies Eva-ty l₉) ∷ ‵ (froom Seg-ty l₈ 0) ∷ ‵ (fdies Seg-ty l₈) ∷ ‵ (froom (tyInt w64) l₇ 0) ∷ ‵ (fdies (tyInt w64) l₇) ∷ ‵ (froom Cho-ty l₆ 0) ∷ ‵ (fdies Cho-ty l₆) ∷ ‵ (froom Que-ty l₅ 0) ∷ ‵ (fdies Que-ty l₅) ∷ ‵ (froom Que-ty l₄ 0) ∷ ‵ (fdies Que-ty l₄) ∷ ‵ (froom (tyInt w64) l₃ 0) ∷ ‵ (fdies (tyInt w64) l₃) ∷ ‵ (froom Tab₁-ty l₂ 0) ∷ ‵ (fdies Tab₁-ty l₂) ∷ ‵ (froom K-ty l₁ 0) ∷ ‵ (fdies K-ty l₁) ∷ ‵ (froom Ans-ty l₀ 0) ∷ ‵ (fdies Ans-ty l₀) ∷ []) (frees En (prop (Post (ans r))))
+      ends : (r : Answer) → r ≡ answerTo (asking.backward (evaluated Spk (k .now)) (t .now) n x (lastReversed (t .now) n x)) → Is Ans r (ans r ∷ []) → Sq W (‵ (ShrOwn u8 κ k) ∷ ‵ (flft κ q) ∷ ‵ (ShrOwn Seg κ′ t) ∷ ‵ (flft κ′ q′) ∷ ‵ (froom tyBool l₁₀ 0) ∷ ‵ (fdies tyBool l₁₀) ∷ ‵ (froom Yie-ty l₉ 0) ∷ ‵ (fdies Yie-ty l₉) ∷ ‵ (froom Seg-ty l₈ 0) ∷ ‵ (fdies Seg-ty l₈) ∷ ‵ (froom (tyInt w64) l₇ 0) ∷ ‵ (fdies (tyInt w64) l₇) ∷ ‵ (froom Cho-ty l₆ 0) ∷ ‵ (fdies Cho-ty l₆) ∷ ‵ (froom Que-ty l₅ 0) ∷ ‵ (fdies Que-ty l₅) ∷ ‵ (froom Que-ty l₄ 0) ∷ ‵ (fdies Que-ty l₄) ∷ ‵ (froom (tyInt w64) l₃ 0) ∷ ‵ (fdies (tyInt w64) l₃) ∷ ‵ (froom Tab₁-ty l₂ 0) ∷ ‵ (fdies Tab₁-ty l₂) ∷ ‵ (froom K-ty l₁ 0) ∷ ‵ (fdies K-ty l₁) ∷ ‵ (froom Ans-ty l₀ 0) ∷ ‵ (fdies Ans-ty l₀) ∷ []) (frees En (prop (Post (ans r))))
       ends r e is =
           move ! (24 ∷ 25 ∷ []) $ free1 ! $ move ! (22 ∷ 23 ∷ []) $ free1 ! $ move ! (20 ∷ 21 ∷ []) $ free1 ! $ move ! (18 ∷ 19 ∷ []) $ free1 ! $ move ! (16 ∷ 17 ∷ []) $ free1 ! $ move ! (14 ∷ 15 ∷ []) $ free1 ! $ move ! (12 ∷ 13 ∷ []) $ free1 ! $ move ! (10 ∷ 11 ∷ []) $ free1 ! $ move ! (8 ∷ 9 ∷ []) $ free1 ! $ move ! (6 ∷ 7 ∷ []) $ free1 ! $ move ! (4 ∷ 5 ∷ []) $ free1 ! $ free0 ! $ by ! (exits r e is)
 
       abbrev Start : List (Item 𝓤)
-      Start = ‵ (ShrOwn u8 κ k) ∷ ‵ (flft κ q) ∷ ‵ (ShrOwn Seg κ′ t) ∷ ‵ (flft κ′ q′) ∷ ‵ (froom tyBool l₁₀ 0) ∷ ‵ (fdies tyBool l₁₀) ∷ ‵ (froom Eva-ty l₉ 0) ∷ ‵ (fdies Eva-ty l₉) ∷ ‵ (froom Seg-ty l₈ 0) ∷ ‵ (fdies Seg-ty l₈) ∷ ‵ (froom (tyInt w64) l₇ 0) ∷ ‵ (fdies (tyInt w64) l₇) ∷ ‵ (froom Cho-ty l₆ 0) ∷ ‵ (fdies Cho-ty l₆) ∷ ‵ (froom Que-ty l₅ 0) ∷ ‵ (fdies Que-ty l₅) ∷ ‵ (fat fullShare Que-ty l₄ 0 (que x)) ∷ ‵ (fdies Que-ty l₄) ∷ ‵ (fat fullShare (tyInt w64) l₃ 0 (vint w64 n)) ∷ ‵ (fdies (tyInt w64) l₃) ∷ ‵ (fat fullShare Tab₁-ty l₂ 0 (tv)) ∷ ‵ (fdies Tab₁-ty l₂) ∷ ‵ (fat fullShare K-ty l₁ 0 (kv)) ∷ ‵ (fdies K-ty l₁) ∷ ‵ (froom Ans-ty l₀ 0) ∷ ‵ (fdies Ans-ty l₀) ∷ []
+      Start = ‵ (ShrOwn u8 κ k) ∷ ‵ (flft κ q) ∷ ‵ (ShrOwn Seg κ′ t) ∷ ‵ (flft κ′ q′) ∷ ‵ (froom tyBool l₁₀ 0) ∷ ‵ (fdies tyBool l₁₀) ∷ ‵ (froom Yie-ty l₉ 0) ∷ ‵ (fdies Yie-ty l₉) ∷ ‵ (froom Seg-ty l₈ 0) ∷ ‵ (fdies Seg-ty l₈) ∷ ‵ (froom (tyInt w64) l₇ 0) ∷ ‵ (fdies (tyInt w64) l₇) ∷ ‵ (froom Cho-ty l₆ 0) ∷ ‵ (fdies Cho-ty l₆) ∷ ‵ (froom Que-ty l₅ 0) ∷ ‵ (fdies Que-ty l₅) ∷ ‵ (fat fullShare Que-ty l₄ 0 (que x)) ∷ ‵ (fdies Que-ty l₄) ∷ ‵ (fat fullShare (tyInt w64) l₃ 0 (vint w64 n)) ∷ ‵ (fdies (tyInt w64) l₃) ∷ ‵ (fat fullShare Tab₁-ty l₂ 0 (tv)) ∷ ‵ (fdies Tab₁-ty l₂) ∷ ‵ (fat fullShare K-ty l₁ 0 (kv)) ∷ ‵ (fdies K-ty l₁) ∷ ‵ (froom Ans-ty l₀ 0) ∷ ‵ (fdies Ans-ty l₀) ∷ []
 
       goes : (b1 : Bool) → ltb i n ≡ b1 → Sq W Start (runs (𝓣 .C) (𝓣 .Λ) En body.t-1 (atRet En Post))
       goes true e1 =
@@ -138,7 +138,7 @@ module _ {M : Type 1} (𝓤 : URA M) (H : Heap 𝓤) (A : Atoms 𝓤) (W : Given
           (λ z. absurd z)
           (λ _. skips ! $ exec ! (𝓣 .C) (𝓣 .Λ) En body.t-6 (atRet En Post) $
           calls-chained 𝓤 H A mem run κ κ′ q q′ k t n x W fm known-chained within is-n is-x
-          (and-then ! (load ! (from ! (stop !)) (look ! 21 refl)) (and-then ! (load ! (from ! (stop !)) (look ! 19 refl)) (and-then ! (load ! (from ! (stop !)) (look ! 17 refl)) (and-then ! (load ! (from ! (stop !)) (look ! 15 refl)) (no-more !))))) (λ is-9. land ! (from ! (stop !)) (init ! 6 refl (eva-lawful 𝓤 H A W .typed (out-chained 𝓤 H A mem run κ κ′ q q′ k t n x) _ is-9 .0)) $
+          (and-then ! (load ! (from ! (stop !)) (look ! 21 refl)) (and-then ! (load ! (from ! (stop !)) (look ! 19 refl)) (and-then ! (load ! (from ! (stop !)) (look ! 17 refl)) (and-then ! (load ! (from ! (stop !)) (look ! 15 refl)) (no-more !))))) (λ is-9. land ! (from ! (stop !)) (init ! 6 refl (yie-lawful 𝓤 H A W .typed (out-chained 𝓤 H A mem run κ κ′ q q′ k t n x) _ is-9 .0)) $
           calls-by-chain 𝓤 H A mem run (asking.chained (evaluated Spk (k .now)) (t .now) n x) W fm known-by-chain is-9
           (and-then ! (load ! (from ! (stop !)) (look ! 7 refl)) (no-more !)) (λ is-0. land ! (from ! (stop !)) (init ! 24 refl (ans-lawful 𝓤 H A W .typed (out-by-chain 𝓤 H A mem run (asking.chained (evaluated Spk (k .now)) (t .now) n x)) _ is-0 .0)) $
           returns ! (look ! 24 refl) $ forget ! 4 refl $ forget ! 6 refl $ forget ! 10 refl $ forget ! 12 refl $ forget ! 14 refl $ forget ! 16 refl $ forget ! 18 refl $ forget ! 20 refl $ forget ! 22 refl $ forget ! 24 refl $ ends (out-by-chain 𝓤 H A mem run (asking.chained (evaluated Spk (k .now)) (t .now) n x)) (back-none (evaluated Spk (k .now)) (t .now) n x (ltb-false i n e1)) is-0))))))

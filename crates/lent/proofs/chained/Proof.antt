@@ -2,7 +2,7 @@
 -- Assumes nothing.
 use Rattle.lent.proofs.Walking.{ℕ, _≤_, Lft, Share, ftrue, flft, fat, froom, fdies, SProp, ent, Lfts, Fun, givenOf, tables, tablesOf, usize, u8, u32, yes, Is, pointee, uint-makes, uint-vals, uint-tells, owns, RefT, plain, sliceVal, ShrSlice, Room, slice-vals, shr-slice-tells, sliceTy, owned, nothing, Vals, onEntry, Meets, tripleOf, Triple, entered, cited, says, Stays, stay-none-slice, walkOf, goes-none-slice, Walks, ends-at, walked, walk-meets, needs, stay-none, goes-none, Atoms, fullShare, URA, lit<, length, Bool, true, false, List, [], _∷_, refl, _≡_, named, w64, w32, tyInt, tyBool, Ty, imm, w8, tyRef, Val, vint, vbool, Memory, Routine, Heap, WpFn, Tables, Env, WpFn-mono, FmC, fmOf, Given, ‵, _⊛_, _$_, _∵_, !, qed, by, move, suffices, frame, done, ⋆, keep, split, join, rewrite, fsplit, fjoin, Item, Sq, runs, atRet, frees, prop, look, init, forget, stop, from, load, of-opd, assigns, returns, enter, alloc1, alloc0, params1, pass1, pass0, free1, free0, lit, and-then, no-more, land, first, exec, branches, skips, returns-within}
 use Rattle.segment.specs.declared.Segment.{Segment}
-use Rattle.segment.specs.declared.Evaluated.{Evaluated}
+use Rattle.chain.specs.declared.Yielded.{Yielded}
 use Rattle.spk.specs.declared.Question.{Question}
 use Rattle.daf.specs.declared.Family.the-variants.{Spk}
 use Rattle.segment.specs.Evaluating.{evaluated}
@@ -17,7 +17,7 @@ use Rattle.spk.specs.Asking.{legFrom}
 use Rattle.spk.specs.Asking as asking
 use Rattle.lent.proofs.chained.Code.Mir as body
 use Rattle.lent.proofs.Seg.{Seg}
-use Rattle.lent.proofs.Rows.{Eva, Eva-ty, eva, eva-lawful, eva-makes, Nex-ty, nex-lawful, Que, Que-ty, que, que-tells, que-lawful, que-makes}
+use Rattle.lent.proofs.Rows.{Yie, Yie-ty, yie, yie-lawful, yie-makes, Nex-ty, nex-lawful, Que, Que-ty, que, que-tells, que-lawful, que-makes}
 use Rattle.lent.proofs.Calls.{ShrOwn}
 use Rattle.lent.proofs.Calls.{the-start-of, the-walk, the-is-failed, the-swapped, the-difference, calls-start-of, calls-walk, calls-is-failed, calls-swapped, calls-difference, out-start-of, out-walk, out-swapped, out-difference}
 use Rattle.spk.proofs.start_of.Symbol as d-start-of
@@ -66,13 +66,13 @@ module _ {M : Type 1} (𝓤 : URA M) (H : Heap 𝓤) (A : Atoms 𝓤) (W : Given
   abbrev Post : Val → SProp 𝓤
   Post = walkOf 𝓤 H A f.ended stayed (f.clauses 𝓤 H A mem run) .post ((κs, (q, (q′, tt)), tt, a₀, at), tt)
 
-  exits : (r : Evaluated) → r ≡ asking.chained (evaluated Spk (k .now)) (t .now) n x → Is Eva r (eva r ∷ []) → ent 𝓤 (⋆ 𝓤 H A (‵ (ShrOwn u8 κ k) ∷ ‵ (flft κ q) ∷ ‵ (ShrOwn Seg κ′ t) ∷ ‵ (flft κ′ q′) ∷ [])) (Post (eva r))
+  exits : (r : Yielded) → r ≡ asking.chained (evaluated Spk (k .now)) (t .now) n x → Is Yie r (yie r ∷ []) → ent 𝓤 (⋆ 𝓤 H A (‵ (ShrOwn u8 κ k) ∷ ‵ (flft κ q) ∷ ‵ (ShrOwn Seg κ′ t) ∷ ‵ (flft κ′ q′) ∷ [])) (Post (yie r))
   exits r e is =
       qed W (‵ (ShrOwn u8 κ k) ∷ ‵ (flft κ q) ∷ ‵ (ShrOwn Seg κ′ t) ∷ ‵ (flft κ′ q′) ∷ []) ∵
-      suffices ! _ (ends-at 𝓤 H A f.ended stayed (f.clauses 𝓤 H A mem run) W ((κs, (q, (q′, tt)), tt, a₀, at), tt) (eva r) r (tt, (tt, (tt, (tt, tt)))) (tt, (tt, (tt, (tt, tt))))) $ says ! e $
+      suffices ! _ (ends-at 𝓤 H A f.ended stayed (f.clauses 𝓤 H A mem run) W ((κs, (q, (q′, tt)), tt, a₀, at), tt) (yie r) r (tt, (tt, (tt, (tt, tt)))) (tt, (tt, (tt, (tt, tt))))) $ says ! e $
       nothing ! $ move ! (4 ∷ 0 ∷ []) $ join ! $ move ! (2 ∷ 0 ∷ []) $ join ! $ frame ! $
       nothing ! $ owned ! Que (Is Que) (que-makes 𝓤 H A W) x _ is-x $ fjoin ! $ owned ! usize (Is usize) (uint-makes 𝓤 H A W w64) n _ is-n $ fjoin ! $ move ! (2 ∷ 0 ∷ []) $ fjoin ! $ move ! (1 ∷ 0 ∷ []) $ fjoin ! $
-      frame ! $ owned ! Eva (Is Eva) (eva-makes 𝓤 H A W) r _ is $ done !
+      frame ! $ owned ! Yie (Is Yie) (yie-makes 𝓤 H A W) r _ is $ done !
 
   is-limit : Is u32 chainLimit (vint w32 chainLimit ∷ [])
   is-limit = (refl, lit< tt)
@@ -89,34 +89,34 @@ module _ {M : Type 1} (𝓤 : URA M) (H : Heap 𝓤) (A : Atoms 𝓤) (W : Given
 
     module _ (l₀ l₁ l₂ l₃ l₄ l₅ l₆ l₇ l₈ l₉ l₁₀ : ℕ) where
       abbrev En : Env 𝓤 H
-      En = (Eva-ty, l₀) ∷ (K-ty, l₁) ∷ (Tab₁-ty, l₂) ∷ (tyInt w64, l₃) ∷ (Que-ty, l₄) ∷ (Nex-ty, l₅) ∷ (Eva-ty, l₆) ∷ (Que-ty, l₇) ∷ (Nex-ty, l₈) ∷ (Eva-ty, l₉) ∷ (tyBool, l₁₀) ∷ []
+      En = (Yie-ty, l₀) ∷ (K-ty, l₁) ∷ (Tab₁-ty, l₂) ∷ (tyInt w64, l₃) ∷ (Que-ty, l₄) ∷ (Nex-ty, l₅) ∷ (Yie-ty, l₆) ∷ (Que-ty, l₇) ∷ (Nex-ty, l₈) ∷ (Yie-ty, l₉) ∷ (tyBool, l₁₀) ∷ []
 
       -- the locals are freed
-      ends : (r : Evaluated) → r ≡ asking.chained (evaluated Spk (k .now)) (t .now) n x → Is Eva r (eva r ∷ []) → Sq W (‵ (ShrOwn u8 κ k) ∷ ‵ (flft κ q) ∷ ‵ (ShrOwn Seg κ′ t) ∷ ‵ (flft κ′ q′) ∷ ‵ (froom tyBool l₁₀ 0) ∷ ‵ (fdies tyBool l₁₀) ∷ ‵ (froom Eva-ty l₉ 0) ∷ ‵ (fdies Eva-ty l₉) ∷ ‵ (froom Nex-ty l₈ 0) ∷ ‵ (fdies Nex-ty l₈) ∷ ‵ (froom Que-ty l₇ 0) ∷ ‵ (fdies Que-ty l₇) ∷ ‵ (froom Eva-ty l₆ 0) ∷ ‵ (fdies Eva-ty l₆) ∷ ‵ (froom Nex-ty l₅ 0) ∷ ‵ (fdies Nex-ty l₅) ∷ ‵ (froom Que-ty l₄ 0) ∷ ‵ (fdies Que-ty l₄) ∷ ‵ (froom (tyInt w64) l₃ 0) ∷ ‵ (fdies (tyInt w64) l₃) ∷ ‵ (froom Tab₁-ty l₂ 0) ∷ ‵ (fdies Tab₁-ty l₂) ∷ ‵ (froom K-ty l₁ 0) ∷ ‵ (fdies K-ty l₁) ∷ ‵ (froom Eva-ty l₀ 0) ∷ ‵ (fdies Eva-ty l₀) ∷ []) (frees En (prop (Post (eva r))))
+      ends : (r : Yielded) → r ≡ asking.chained (evaluated Spk (k .now)) (t .now) n x → Is Yie r (yie r ∷ []) → Sq W (‵ (ShrOwn u8 κ k) ∷ ‵ (flft κ q) ∷ ‵ (ShrOwn Seg κ′ t) ∷ ‵ (flft κ′ q′) ∷ ‵ (froom tyBool l₁₀ 0) ∷ ‵ (fdies tyBool l₁₀) ∷ ‵ (froom Yie-ty l₉ 0) ∷ ‵ (fdies Yie-ty l₉) ∷ ‵ (froom Nex-ty l₈ 0) ∷ ‵ (fdies Nex-ty l₈) ∷ ‵ (froom Que-ty l₇ 0) ∷ ‵ (fdies Que-ty l₇) ∷ ‵ (froom Yie-ty l₆ 0) ∷ ‵ (fdies Yie-ty l₆) ∷ ‵ (froom Nex-ty l₅ 0) ∷ ‵ (fdies Nex-ty l₅) ∷ ‵ (froom Que-ty l₄ 0) ∷ ‵ (fdies Que-ty l₄) ∷ ‵ (froom (tyInt w64) l₃ 0) ∷ ‵ (fdies (tyInt w64) l₃) ∷ ‵ (froom Tab₁-ty l₂ 0) ∷ ‵ (fdies Tab₁-ty l₂) ∷ ‵ (froom K-ty l₁ 0) ∷ ‵ (fdies K-ty l₁) ∷ ‵ (froom Yie-ty l₀ 0) ∷ ‵ (fdies Yie-ty l₀) ∷ []) (frees En (prop (Post (yie r))))
       ends r e is =
           move ! (24 ∷ 25 ∷ []) $ free1 ! $ move ! (22 ∷ 23 ∷ []) $ free1 ! $ move ! (20 ∷ 21 ∷ []) $ free1 ! $ move ! (18 ∷ 19 ∷ []) $ free1 ! $ move ! (16 ∷ 17 ∷ []) $ free1 ! $ move ! (14 ∷ 15 ∷ []) $ free1 ! $ move ! (12 ∷ 13 ∷ []) $ free1 ! $ move ! (10 ∷ 11 ∷ []) $ free1 ! $ move ! (8 ∷ 9 ∷ []) $ free1 ! $ move ! (6 ∷ 7 ∷ []) $ free1 ! $ move ! (4 ∷ 5 ∷ []) $ free1 ! $ free0 ! $ by ! (exits r e is)
 
       abbrev Start : List (Item 𝓤)
-      Start = ‵ (ShrOwn u8 κ k) ∷ ‵ (flft κ q) ∷ ‵ (ShrOwn Seg κ′ t) ∷ ‵ (flft κ′ q′) ∷ ‵ (froom tyBool l₁₀ 0) ∷ ‵ (fdies tyBool l₁₀) ∷ ‵ (froom Eva-ty l₉ 0) ∷ ‵ (fdies Eva-ty l₉) ∷ ‵ (froom Nex-ty l₈ 0) ∷ ‵ (fdies Nex-ty l₈) ∷ ‵ (froom Que-ty l₇ 0) ∷ ‵ (fdies Que-ty l₇) ∷ ‵ (froom Eva-ty l₆ 0) ∷ ‵ (fdies Eva-ty l₆) ∷ ‵ (froom Nex-ty l₅ 0) ∷ ‵ (fdies Nex-ty l₅) ∷ ‵ (fat fullShare Que-ty l₄ 0 (que x)) ∷ ‵ (fdies Que-ty l₄) ∷ ‵ (fat fullShare (tyInt w64) l₃ 0 (vint w64 n)) ∷ ‵ (fdies (tyInt w64) l₃) ∷ ‵ (fat fullShare Tab₁-ty l₂ 0 (tv)) ∷ ‵ (fdies Tab₁-ty l₂) ∷ ‵ (fat fullShare K-ty l₁ 0 (kv)) ∷ ‵ (fdies K-ty l₁) ∷ ‵ (froom Eva-ty l₀ 0) ∷ ‵ (fdies Eva-ty l₀) ∷ []
+      Start = ‵ (ShrOwn u8 κ k) ∷ ‵ (flft κ q) ∷ ‵ (ShrOwn Seg κ′ t) ∷ ‵ (flft κ′ q′) ∷ ‵ (froom tyBool l₁₀ 0) ∷ ‵ (fdies tyBool l₁₀) ∷ ‵ (froom Yie-ty l₉ 0) ∷ ‵ (fdies Yie-ty l₉) ∷ ‵ (froom Nex-ty l₈ 0) ∷ ‵ (fdies Nex-ty l₈) ∷ ‵ (froom Que-ty l₇ 0) ∷ ‵ (fdies Que-ty l₇) ∷ ‵ (froom Yie-ty l₆ 0) ∷ ‵ (fdies Yie-ty l₆) ∷ ‵ (froom Nex-ty l₅ 0) ∷ ‵ (fdies Nex-ty l₅) ∷ ‵ (fat fullShare Que-ty l₄ 0 (que x)) ∷ ‵ (fdies Que-ty l₄) ∷ ‵ (fat fullShare (tyInt w64) l₃ 0 (vint w64 n)) ∷ ‵ (fdies (tyInt w64) l₃) ∷ ‵ (fat fullShare Tab₁-ty l₂ 0 (tv)) ∷ ‵ (fdies Tab₁-ty l₂) ∷ ‵ (fat fullShare K-ty l₁ 0 (kv)) ∷ ‵ (fdies K-ty l₁) ∷ ‵ (froom Yie-ty l₀ 0) ∷ ‵ (fdies Yie-ty l₀) ∷ []
 
       goes : (b1 : Bool) → isFailed (ahead (evaluated Spk (k .now)) (t .now) n chainLimit (begin (legFrom x))) ≡ b1 → Sq W Start (runs (𝓣 .C) (𝓣 .Λ) En body.t-1 (atRet En Post))
       goes true e1 =
           calls-start-of 𝓤 H A mem run x W fm known-start-of is-x
           (and-then ! (load ! (from ! (stop !)) (look ! 17 refl)) (no-more !)) (λ is-5. land ! (from ! (stop !)) (init ! 14 refl (nex-lawful 𝓤 H A W .typed (out-start-of 𝓤 H A mem run x) _ is-5 .0)) $
           calls-walk 𝓤 H A mem run κ κ′ q q′ k t n (begin (legFrom x)) chainLimit W fm known-walk within is-n is-5 is-limit
-          (and-then ! (load ! (from ! (stop !)) (look ! 21 refl)) (and-then ! (load ! (from ! (stop !)) (look ! 19 refl)) (and-then ! (load ! (from ! (stop !)) (look ! 17 refl)) (and-then ! (load ! (from ! (stop !)) (look ! 13 refl)) (and-then ! (lit ! tt) (no-more !)))))) (λ is-6. land ! (from ! (stop !)) (init ! 12 refl (eva-lawful 𝓤 H A W .typed (out-walk 𝓤 H A mem run κ κ′ q q′ k t n (begin (legFrom x)) chainLimit) _ is-6 .0)) $
+          (and-then ! (load ! (from ! (stop !)) (look ! 21 refl)) (and-then ! (load ! (from ! (stop !)) (look ! 19 refl)) (and-then ! (load ! (from ! (stop !)) (look ! 17 refl)) (and-then ! (load ! (from ! (stop !)) (look ! 13 refl)) (and-then ! (lit ! tt) (no-more !)))))) (λ is-6. land ! (from ! (stop !)) (init ! 12 refl (yie-lawful 𝓤 H A W .typed (out-walk 𝓤 H A mem run κ κ′ q q′ k t n (begin (legFrom x)) chainLimit) _ is-6 .0)) $
           calls-is-failed 𝓤 H A mem run (ahead (evaluated Spk (k .now)) (t .now) n chainLimit (begin (legFrom x))) W fm known-is-failed is-6
           (and-then ! (load ! (from ! (stop !)) (look ! 13 refl)) (no-more !)) (λ is-10. land ! (from ! (stop !)) (init ! 4 refl (tt, tt)) $
           rewrite ! 4 (λ (b : Bool). ‵ (fat fullShare tyBool l₁₀ 0 (vbool b))) e1 refl $ first ! $ branches ! (load ! (from ! (stop !)) (look ! 4 refl))
           (λ _.
-          assigns ! (of-opd ! (load ! (from ! (stop !)) (look ! 12 refl))) (from ! (stop !)) (init ! 24 refl (eva-lawful 𝓤 H A W .typed (ahead (evaluated Spk (k .now)) (t .now) n chainLimit (begin (legFrom x))) _ is-6 .0)) $
+          assigns ! (of-opd ! (load ! (from ! (stop !)) (look ! 12 refl))) (from ! (stop !)) (init ! 24 refl (yie-lawful 𝓤 H A W .typed (ahead (evaluated Spk (k .now)) (t .now) n chainLimit (begin (legFrom x))) _ is-6 .0)) $
           returns-within ! Post refl (look ! 24 refl) $ forget ! 4 refl $ forget ! 12 refl $ forget ! 14 refl $ forget ! 16 refl $ forget ! 18 refl $ forget ! 20 refl $ forget ! 22 refl $ forget ! 24 refl $ ends (ahead (evaluated Spk (k .now)) (t .now) n chainLimit (begin (legFrom x))) (chain-failed (evaluated Spk (k .now)) (t .now) n x e1) is-6)
           (λ z. absurd z))))
       goes false e1 =
           calls-start-of 𝓤 H A mem run x W fm known-start-of is-x
           (and-then ! (load ! (from ! (stop !)) (look ! 17 refl)) (no-more !)) (λ is-5. land ! (from ! (stop !)) (init ! 14 refl (nex-lawful 𝓤 H A W .typed (out-start-of 𝓤 H A mem run x) _ is-5 .0)) $
           calls-walk 𝓤 H A mem run κ κ′ q q′ k t n (begin (legFrom x)) chainLimit W fm known-walk within is-n is-5 is-limit
-          (and-then ! (load ! (from ! (stop !)) (look ! 21 refl)) (and-then ! (load ! (from ! (stop !)) (look ! 19 refl)) (and-then ! (load ! (from ! (stop !)) (look ! 17 refl)) (and-then ! (load ! (from ! (stop !)) (look ! 13 refl)) (and-then ! (lit ! tt) (no-more !)))))) (λ is-6. land ! (from ! (stop !)) (init ! 12 refl (eva-lawful 𝓤 H A W .typed (out-walk 𝓤 H A mem run κ κ′ q q′ k t n (begin (legFrom x)) chainLimit) _ is-6 .0)) $
+          (and-then ! (load ! (from ! (stop !)) (look ! 21 refl)) (and-then ! (load ! (from ! (stop !)) (look ! 19 refl)) (and-then ! (load ! (from ! (stop !)) (look ! 17 refl)) (and-then ! (load ! (from ! (stop !)) (look ! 13 refl)) (and-then ! (lit ! tt) (no-more !)))))) (λ is-6. land ! (from ! (stop !)) (init ! 12 refl (yie-lawful 𝓤 H A W .typed (out-walk 𝓤 H A mem run κ κ′ q q′ k t n (begin (legFrom x)) chainLimit) _ is-6 .0)) $
           calls-is-failed 𝓤 H A mem run (ahead (evaluated Spk (k .now)) (t .now) n chainLimit (begin (legFrom x))) W fm known-is-failed is-6
           (and-then ! (load ! (from ! (stop !)) (look ! 13 refl)) (no-more !)) (λ is-10. land ! (from ! (stop !)) (init ! 4 refl (tt, tt)) $
           rewrite ! 4 (λ (b : Bool). ‵ (fat fullShare tyBool l₁₀ 0 (vbool b))) e1 refl $ first ! $ branches ! (load ! (from ! (stop !)) (look ! 4 refl))
@@ -127,9 +127,9 @@ module _ {M : Type 1} (𝓤 : URA M) (H : Heap 𝓤) (A : Atoms 𝓤) (W : Given
           calls-start-of 𝓤 H A mem run (swapped x) W fm known-start-of is-7
           (and-then ! (load ! (from ! (stop !)) (look ! 11 refl)) (no-more !)) (λ is-8. land ! (from ! (stop !)) (init ! 8 refl (nex-lawful 𝓤 H A W .typed (out-start-of 𝓤 H A mem run (swapped x)) _ is-8 .0)) $
           calls-walk 𝓤 H A mem run κ κ′ q q′ k t n (begin (legFrom (swapped x))) chainLimit W fm known-walk within is-n is-8 is-limit
-          (and-then ! (load ! (from ! (stop !)) (look ! 21 refl)) (and-then ! (load ! (from ! (stop !)) (look ! 19 refl)) (and-then ! (load ! (from ! (stop !)) (look ! 17 refl)) (and-then ! (load ! (from ! (stop !)) (look ! 7 refl)) (and-then ! (lit ! tt) (no-more !)))))) (λ is-9. land ! (from ! (stop !)) (init ! 6 refl (eva-lawful 𝓤 H A W .typed (out-walk 𝓤 H A mem run κ κ′ q q′ k t n (begin (legFrom (swapped x))) chainLimit) _ is-9 .0)) $
+          (and-then ! (load ! (from ! (stop !)) (look ! 21 refl)) (and-then ! (load ! (from ! (stop !)) (look ! 19 refl)) (and-then ! (load ! (from ! (stop !)) (look ! 17 refl)) (and-then ! (load ! (from ! (stop !)) (look ! 7 refl)) (and-then ! (lit ! tt) (no-more !)))))) (λ is-9. land ! (from ! (stop !)) (init ! 6 refl (yie-lawful 𝓤 H A W .typed (out-walk 𝓤 H A mem run κ κ′ q q′ k t n (begin (legFrom (swapped x))) chainLimit) _ is-9 .0)) $
           calls-difference 𝓤 H A mem run (ahead (evaluated Spk (k .now)) (t .now) n chainLimit (begin (legFrom x))) (ahead (evaluated Spk (k .now)) (t .now) n chainLimit (begin (legFrom (swapped x)))) W fm known-difference is-6 is-9
-          (and-then ! (load ! (from ! (stop !)) (look ! 13 refl)) (and-then ! (load ! (from ! (stop !)) (look ! 7 refl)) (no-more !))) (λ is-0. land ! (from ! (stop !)) (init ! 24 refl (eva-lawful 𝓤 H A W .typed (out-difference 𝓤 H A mem run (ahead (evaluated Spk (k .now)) (t .now) n chainLimit (begin (legFrom x))) (ahead (evaluated Spk (k .now)) (t .now) n chainLimit (begin (legFrom (swapped x))))) _ is-0 .0)) $
+          (and-then ! (load ! (from ! (stop !)) (look ! 13 refl)) (and-then ! (load ! (from ! (stop !)) (look ! 7 refl)) (no-more !))) (λ is-0. land ! (from ! (stop !)) (init ! 24 refl (yie-lawful 𝓤 H A W .typed (out-difference 𝓤 H A mem run (ahead (evaluated Spk (k .now)) (t .now) n chainLimit (begin (legFrom x))) (ahead (evaluated Spk (k .now)) (t .now) n chainLimit (begin (legFrom (swapped x))))) _ is-0 .0)) $
           returns ! (look ! 24 refl) $ forget ! 4 refl $ forget ! 6 refl $ forget ! 8 refl $ forget ! 10 refl $ forget ! 12 refl $ forget ! 14 refl $ forget ! 16 refl $ forget ! 18 refl $ forget ! 20 refl $ forget ! 22 refl $ forget ! 24 refl $ ends (out-difference 𝓤 H A mem run (ahead (evaluated Spk (k .now)) (t .now) n chainLimit (begin (legFrom x))) (ahead (evaluated Spk (k .now)) (t .now) n chainLimit (begin (legFrom (swapped x))))) (chain-told (evaluated Spk (k .now)) (t .now) n x) is-0))))))))
 
     walk : ent 𝓤 (onEntry 𝓤 H A f.signature κs (q, (q′, tt)) a₀ at) (WpFn 𝓤 H (𝓣 .C) (𝓣 .Λ) code.function (kv ∷ tv ∷ vint w64 n ∷ que x ∷ []) Post)

@@ -39,7 +39,10 @@ next-requires : tie.Need-next-requires Inv-loop μ-loop
 next-requires c κs = search needs
 
 add-i : tie.Need-add-i Inv-loop μ-loop
-add-i c = search needs
+add-i c =
+    let in-loop = c .before .before .before .before .before .before .before .before .before .before in
+    let start = in-loop .before .before .before .before .before .before in
+    search (needs, in-loop .loop-test .taken, start .fits .passes .fits)
 
 loop-less : tie.Need-loop-less Inv-loop μ-loop
 loop-less c = search needs

@@ -1,6 +1,6 @@
 -- `spk::less` meets its contract: an answer for each arm. Assumes nothing.
 use mathlib.Core.Path.{_∙_, sym, ap}
-use Rattle.segment.specs.declared.Evaluated.the-variants.{State}
+use Rattle.chain.specs.declared.Yielded.the-variants.{Given}
 use Rattle.spk.specs.Answers.{lessOf}
 use borrow.Author.Needs.{needs}
 use Rattle.spk.proofs.less.Statement.{statement}
@@ -21,7 +21,7 @@ returns c = sym (ap (lessOf (c .before .before .before .args .a)) (c .before .e 
 returns-2 : tie.Need-returns-2
 returns-2 c =
     let a = c .before .before .before .before .args .a in
-    ap State (c .minus .ensures) ∙ sym (ap (lessOf a) (c .before .before .e2 .given .1))
+    ap Given (c .minus .ensures) ∙ sym (ap (lessOf a) (c .before .before .e2 .given .1))
 
 pub less-spec : {M : Type 1} → statement M
 less-spec = tie.close (tie.spec enum-known-e enum-known-e-2 minus-requires returns returns-2)

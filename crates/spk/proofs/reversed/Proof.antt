@@ -1,9 +1,35 @@
--- `spk::reversed` meets its contract. Assumes nothing.
-use mathlib.Core.Path.{_∙_, ap}
-use Rattle.spk.specs.Answers.{settled, negatedOf}
+-- `spk::reversed` meets its contract: an answer for each arm. Assumes nothing.
+use mathlib.Core.Path.{_∙_, sym, ap}
+use mir.Syntax.{w32}
+use mir.ValLaws.{toZ-ofZ}
+use Rattle.frame.specs.declared.Given.{Given}
+use Rattle.frame.specs.Given.{givenOf, negatedGiven}
+use Rattle.chain.specs.declared.Yielded.the-variants as yielded
+use Rattle.chain.specs.Step.{yieldOf}
+use Rattle.spk.specs.declared.Way.the-variants as ways
+use Rattle.spk.specs.Answers.{settled}
+use Rattle.spk.proofs.Settling.{settled-refused, negated-refused, negated-state}
 use borrow.Author.Needs.{needs}
 use Rattle.spk.proofs.reversed.Statement.{statement}
 use Rattle.spk.proofs.reversed.Tie as tie
+
+returns : tie.Need-returns
+returns c =
+    c .refused .ensures
+    ∙ sym (settled-refused _ _ _ (negated-refused _ _ (ap (yieldOf _) (sym (c .before .before .before .before .evaluate .ensures .0) ∙ c .before .before .e .given .1))))
+
+returns-2 : tie.Need-returns-2
+returns-2 c =
+    let a = c .before .before .before .before .before .before .before .before .before .args in
+    c .of2 .ensures
+    ∙ ap (λ (g : Given). settled (ways.Reversed (a .i)) (yielded.Given g))
+    (c .before .negated .ensures ∙ ap negatedGiven (c .before .before .of .ensures ∙ ap (givenOf _) (toZ-ofZ w32 (a .s .frame) (search needs))))
+    ∙ sym
+    (ap (settled (ways.Reversed (a .i)))
+    (negated-state _ _
+    (ap (yieldOf (a .s)) (sym (c .before .before .before .before .before .before .before .evaluate .ensures .0) ∙ c .before .before .before .before .before .e2 .given .1))))
+
+-- ---- by search
 
 cast-evaluate : tie.Need-cast-evaluate
 cast-evaluate c = search needs
@@ -11,15 +37,35 @@ cast-evaluate c = search needs
 evaluate-requires : tie.Need-evaluate-requires
 evaluate-requires c κs = search needs
 
+enum-known-e : tie.Need-enum-known-e
+enum-known-e c = search needs
+
+refused-requires : tie.Need-refused-requires
+refused-requires c κs = search needs
+
+enum-known-e-2 : tie.Need-enum-known-e-2
+enum-known-e-2 c = search needs
+
+of-requires : tie.Need-of-requires
+of-requires c κs = search needs
+
 negated-requires : tie.Need-negated-requires
 negated-requires c κs = search needs
 
-settled-requires : tie.Need-settled-requires
-settled-requires c κs = search needs
-
-returns : tie.Need-returns
-returns c = c .settled .ensures ∙ ap (settled _) (c .before .negated .ensures ∙ ap negatedOf (c .before .before .evaluate .ensures .0))
+of-requires-2 : tie.Need-of-requires-2
+of-requires-2 c κs = search needs
 
 pub reversed-spec : {M : Type 1} → statement M
 reversed-spec =
-    tie.close (tie.spec cast-evaluate evaluate-requires negated-requires settled-requires returns)
+    tie.close
+    (tie.spec
+    cast-evaluate
+    evaluate-requires
+    enum-known-e
+    refused-requires
+    enum-known-e-2
+    of-requires
+    negated-requires
+    of-requires-2
+    returns
+    returns-2)

@@ -35,17 +35,17 @@ returns-2 c =
 returns-3 : tie.Need-returns-3
 returns-3 c =
     let w = c .before .before .before .before .before .args in
-    met-else _ _ _ (Kept _) (record { center = w .s .center; state = w .state }) (sym (c .before .before .before .before .reaches-zero .ensures) ∙ c .before .before .before .if1 .left) (c .before .self .given .1) refl refl
+    met-else _ _ _ (Kept _) (record { center = w .s .center; given = w .given }) (sym (c .before .before .before .before .reaches-zero .ensures) ∙ c .before .before .before .if1 .left) (c .before .self .given .1) refl refl
 
 returns-4 : tie.Need-returns-4
 returns-4 c =
     let w = c .before .before .before .before .before .args in
-    met-else _ _ _ (Zero _) (record { center = w .s .center; state = w .state }) (sym (c .before .before .before .before .reaches-zero .ensures) ∙ c .before .before .before .if1 .left) (c .before .self2 .given .1) refl refl
+    met-else _ _ _ (Zero _) (record { center = w .s .center; given = w .given }) (sym (c .before .before .before .before .reaches-zero .ensures) ∙ c .before .before .before .if1 .left) (c .before .self2 .given .1) refl refl
 
 returns-5 : tie.Need-returns-5
 returns-5 c =
     let w = c .before .before .before .before .before .args in
-    met-else _ _ _ (Refused _) (record { center = w .s .center; state = w .state }) (sym (c .before .before .before .before .reaches-zero .ensures) ∙ c .before .before .before .if1 .left) (c .before .self3 .given .1) refl refl
+    met-else _ _ _ (Refused _) (record { center = w .s .center; given = w .given }) (sym (c .before .before .before .before .reaches-zero .ensures) ∙ c .before .before .before .if1 .left) (c .before .self3 .given .1) refl refl
 
 pub met-spec : {M : Type 1} → statement M
 met-spec =

@@ -91,6 +91,9 @@ enum-told-14 c = search needs
 enum-told-15 : tie.Need-enum-told-15
 enum-told-15 c = search needs
 
+enum-told-16 : tie.Need-enum-told-16
+enum-told-16 c = search needs
+
 returns : tie.Need-returns
 returns c = sym (ap detailOf (c .enum-told .given .1))
 
@@ -151,6 +154,9 @@ returns-19 c = sym (ap detailOf (c .enum-told14 .given .1))
 returns-20 : tie.Need-returns-20
 returns-20 c = sym (ap detailOf (c .enum-told15 .given .1))
 
+returns-21 : tie.Need-returns-21
+returns-21 c = sym (ap detailOf (c .enum-told16 .given .1))
+
 pub detail-spec : {M : Type 1} → statement M
 detail-spec =
     tie.close
@@ -180,6 +186,7 @@ detail-spec =
     enum-told-13
     enum-told-14
     enum-told-15
+    enum-told-16
     returns
     returns-2
     returns-3
@@ -199,4 +206,5 @@ detail-spec =
     returns-17
     returns-18
     returns-19
-    returns-20)
+    returns-20
+    returns-21)

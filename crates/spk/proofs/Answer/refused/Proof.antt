@@ -6,15 +6,15 @@ use borrow.Author.Needs.{needs}
 use Rattle.spk.proofs.Answer.refused.Statement.{statement}
 use Rattle.spk.proofs.Answer.refused.Tie as tie
 
-zero-requires : tie.Need-zero-requires
-zero-requires c κs = search needs
+nothing-requires : tie.Need-nothing-requires
+nothing-requires c κs = search needs
 
 new-requires : tie.Need-new-requires
 new-requires c κs = search needs
 
 returns : tie.Need-returns
 unfolding refusedAnswer
-returns c = c .new .ensures ∙ ap (answerOf (Refused (c .before .before .args .r))) (c .before .zero .ensures)
+returns c = c .new .ensures ∙ ap (answerOf (Refused (c .before .before .args .r))) (c .before .nothing .ensures)
 
 pub refused-spec : {M : Type 1} → statement M
-refused-spec = tie.close (tie.spec zero-requires new-requires returns)
+refused-spec = tie.close (tie.spec nothing-requires new-requires returns)

@@ -1,10 +1,18 @@
--- `spk::Answer::settled` meets its contract: an answer for each way. Assumes nothing.
-use mathlib.Core.Path.{_∙_, sym}
-use mathlib.Core.Bool.{true, false}
-use Rattle.spk.proofs.Settling.{settled-refused, settled-state}
+-- `spk::Answer::settled` meets its contract: an answer for each arm. Assumes nothing.
+use mathlib.Core.Path.{_∙_, sym, ap}
+use Rattle.spk.specs.Answers.{settled}
+use Rattle.spk.proofs.Settling.{settled-refused}
 use borrow.Author.Needs.{needs}
 use Rattle.spk.proofs.Answer.settled.Statement.{statement}
 use Rattle.spk.proofs.Answer.settled.Tie as tie
+
+returns : tie.Need-returns
+returns c = c .refused .ensures ∙ sym (settled-refused _ _ _ (c .before .before .e .given .1))
+
+returns-2 : tie.Need-returns-2
+returns-2 c = c .of .ensures ∙ sym (ap (settled _) (c .before .before .e2 .given .1))
+
+-- ---- by search
 
 enum-known-e : tie.Need-enum-known-e
 enum-known-e c = search needs
@@ -15,38 +23,8 @@ refused-requires c κs = search needs
 enum-known-e-2 : tie.Need-enum-known-e-2
 enum-known-e-2 c = search needs
 
-is-finite-requires : tie.Need-is-finite-requires
-is-finite-requires c κs = search needs
-
-new-requires : tie.Need-new-requires
-new-requires c κs = search needs
-
-refused-requires-2 : tie.Need-refused-requires-2
-refused-requires-2 c κs = search needs
-
-returns : tie.Need-returns
-returns c = c .refused .ensures ∙ sym (settled-refused _ _ _ (c .before .before .e .given .1))
-
-returns-2 : tie.Need-returns-2
-returns-2 c =
-    c .new .ensures
-    ∙ sym (settled-state _ _ _ true (c .before .before .before .before .e2 .given .1) (sym (c .before .before .is-finite .ensures) ∙ c .before .if1 .taken))
-
-returns-3 : tie.Need-returns-3
-returns-3 c =
-    c .refused2 .ensures
-    ∙ sym (settled-state _ _ _ false (c .before .before .before .before .e2 .given .1) (sym (c .before .before .is-finite .ensures) ∙ c .before .if1 .left))
+of-requires : tie.Need-of-requires
+of-requires c κs = search needs
 
 pub settled-spec : {M : Type 1} → statement M
-settled-spec =
-    tie.close
-    (tie.spec
-    enum-known-e
-    refused-requires
-    enum-known-e-2
-    is-finite-requires
-    new-requires
-    refused-requires-2
-    returns
-    returns-2
-    returns-3)
+settled-spec = tie.close (tie.spec enum-known-e refused-requires enum-known-e-2 of-requires returns returns-2)

@@ -7,13 +7,13 @@ use borrow.Author.Needs.{needs}
 use Rattle.spk.proofs.Question.leg.Statement.{statement}
 use Rattle.spk.proofs.Question.leg.Tie as tie
 
-zero-requires : tie.Need-zero-requires
-zero-requires c κs = search needs
+nothing-requires : tie.Need-nothing-requires
+nothing-requires c κs = search needs
 
 returns : tie.Need-returns
 returns c =
     let q = c .before .before .args .self in
-    leg-eq _ _ (toZ-ofZ w32 (q .target) (search needs)) (toZ-ofZ w32 (q .target) (search needs)) refl (c .before .zero .ensures)
+    leg-eq _ _ (toZ-ofZ w32 (q .target) (search needs)) (toZ-ofZ w32 (q .target) (search needs)) refl (c .before .nothing .ensures)
 
 pub leg-spec : {M : Type 1} → statement M
-leg-spec = tie.close (tie.spec zero-requires returns)
+leg-spec = tie.close (tie.spec nothing-requires returns)

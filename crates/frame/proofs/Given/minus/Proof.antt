@@ -1,0 +1,17 @@
+-- `frame::Given::minus` meets its contract: the states' difference, and the frames joined. Assumes nothing.
+use Rattle.frame.proofs.Laws.{given-eq}
+use borrow.Author.Needs.{needs}
+use Rattle.frame.proofs.Given.minus.Statement.{statement}
+use Rattle.frame.proofs.Given.minus.Tie as tie
+
+minus-requires : tie.Need-minus-requires
+minus-requires c κs = search needs
+
+joined-requires : tie.Need-joined-requires
+joined-requires c κs = search needs
+
+returns : tie.Need-returns
+returns c = given-eq _ _ (c .before .minus .ensures) (c .joined .ensures)
+
+pub minus-spec : {M : Type 1} → statement M
+minus-spec = tie.close (tie.spec minus-requires joined-requires returns)
