@@ -15,9 +15,10 @@ as the program wrote them. Epochs are seconds past J2000 TDB, and dates are TDB
 in the Gregorian calendar; a date with a ~ is not exact, the seconds beside it
 are. The way of an answer is `same` (target equals center), `forward` (that
 segment answers), `reversed` (a segment of the swapped pair, negated) or
-`chained` (target and center, each by way of body 0). The lines don't tell the
-frame of a state: --frame does, and without it a state is called `as it
-stands`, which is in the frame of its segments. Refusals are given in the
+`chained` (target and center, each by way of body 0). Where the epoch lies beyond
+the records' own span it is said that a record was stretched to it. The lines
+don't tell the frame of a state: --frame does, and without it a state is called
+`as it stands`, which is in the frame of its segments. Refusals are given in the
 words of docs/RULES.md. With the question file each answer stands under its
 question. A line that no program writes is named on the error output, and then
 nothing is printed.
@@ -83,10 +84,12 @@ WHOLE = r"(-?\d{1,20})"
 COUNT = r"(\d{1,20})"
 SEGMENTS = re.compile(f"segments {COUNT}", re.ASCII)
 SEGMENT = re.compile(f"{COUNT} {WHOLE} {WHOLE} {WHOLE} {WHOLE} ({WORD}) ({WORD}) {WHOLE} {WHOLE} (yes|no)", re.ASCII)
-STATE = re.compile(rf"{COUNT} (same|chained|forward \d+|reversed \d+){SIX}", re.ASCII)
-ORIENTATION = re.compile(f"{COUNT} {WHOLE}{SIX}", re.ASCII)
+STATE = re.compile(rf"{COUNT} (same|chained|forward \d+|reversed \d+) (yes|no){SIX}", re.ASCII)
+ORIENTATION = re.compile(f"{COUNT} {WHOLE} (yes|no){SIX}", re.ASCII)
 REFUSED = re.compile(f"{COUNT} refused {COUNT} {WHOLE}", re.ASCII)  # of a question, its number first
 RUN_REFUSED = re.compile(f"refused {COUNT} {WHOLE}", re.ASCII)
+
+STRETCHED = {"yes": ", a record stretched to the epoch", "no": ""}
 
 Question = namedtuple("Question", "bodies epoch")  # two bodies to an SPK, one body frame to a PCK
 
@@ -193,12 +196,12 @@ def answer_text(line, is_frame, frame):
     """The question's number, its answer in words, and the lines of its numbers."""
     found = STATE.fullmatch(line)
     if found and not is_frame:
-        way = re.sub(r" (\d+)", r", segment \1", found.group(2)) + (f", in {frame}" if frame else ", as it stands")
-        return int(found.group(1)), way, list(columns("xyz", ("km", "km/s"), found.group(3).split()))
+        way = re.sub(r" (\d+)", r", segment \1", found.group(2)) + (f", in {frame}" if frame else ", as it stands") + STRETCHED[found.group(3)]
+        return int(found.group(1)), way, list(columns("xyz", ("km", "km/s"), found.group(4).split()))
     found = ORIENTATION.fullmatch(line)
     if found and is_frame:
-        about = f"angles about reference frame {named(int(found.group(2)), FRAMES)}"
-        return int(found.group(1)), about, list(columns("123", ("rad", "rad/s"), found.group(3).split()))
+        about = f"angles about reference frame {named(int(found.group(2)), FRAMES)}" + STRETCHED[found.group(3)]
+        return int(found.group(1)), about, list(columns("123", ("rad", "rad/s"), found.group(4).split()))
     found = REFUSED.fullmatch(line)
     if found and int(found.group(2)) not in OF_RUN:
         return int(found.group(1)), refusal_text(int(found.group(2)), int(found.group(3)), is_frame), []

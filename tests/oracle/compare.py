@@ -8,7 +8,8 @@ another kernel, go through `replay_cases`, kernels of over 65,536 bytes through 
 
 - opening tagged refused: that refusal line alone, whatever the Rust does; its doing is counted.
 - NaN epoch: 10. A segment asked by its number that doesn't exist: 17. One that the table doesn't fit: 14. The Rust's error of coverage, type, RADIUS: 11, 12, 13 with the detail it names.
-- six numbers of which one is not finite: 15. Six finite numbers: the Rust's own line, to the bit.
+- six numbers of which one is not finite: 15. Six finite numbers: the Rust's own line, to the bit, with the second program's word (tests/second) before
+  them, since the Rust doesn't say whether a record was stretched.
 - a case with frames: the second program's lines (tests/second), since the Rust turns every state as from J2000. They are counted by themselves.
 - anything else of the Rust on an accepted kernel (a panic, another error) is a failure of the comparison.
   Where a degree would wrap in it, it is asked about the twin that gen.py wrote.
@@ -126,8 +127,21 @@ def refuses_fit(words, segment, unfit):
     return segment in unfit and words[1:3] not in (["error", "type"], ["error", "coverage"])
 
 
-def expected(index, question, rust, unfit=frozenset()):
-    """Our line for a question from the Rust's line, or None where the Rust says nothing that counts."""
+def stretched(case):
+    """Whether a record was stretched, `yes` or `no`, for each question of a case, by the second program; `refused` where it refuses."""
+    kernel, program = case.read("kernel"), "ask" if case.program == "wide" else case.program
+    table = (second.open_pck if program == "orient" else second.open_spk)(case.read("origin") or kernel)
+    memory = None
+    for asked in second.question_records(program, case.read("questions")):
+        if program == "ask":
+            answer, memory = second.state(kernel, table, memory, *asked)
+        else:
+            answer = (second.orientation if program == "orient" else second.alone)(kernel, table, *asked)
+        yield "refused" if isinstance(answer, second.Refusal) else "yes" if answer.stretched else "no"
+
+
+def expected(index, question, rust, word, unfit=frozenset()):
+    """Our line for a question from the Rust's line and the word, or None where the Rust says nothing that counts."""
     same, missing, et, segment = question
     if math.isnan(et) and not same:
         return refusal(index, 10)
@@ -142,7 +156,7 @@ def expected(index, question, rust, unfit=frozenset()):
         return refusal(index, REFUSED[words[2]], words[3])
     if words[1] in ("error", "panic"):
         return None
-    return rust if finite(words[-6:]) else refusal(index, 15)
+    return " ".join(words[:-6] + [word] + words[-6:]) if finite(words[-6:]) else refusal(index, 15)
 
 
 class Comparison:
@@ -169,6 +183,7 @@ class Comparison:
         self.counts["answers compared" if self.has(case) else "answers of the Rust alone"] += 1
         way = line.split(" ")[1]
         self.counts[f"answers: {'segments alone' if case.program == 'alone' else way if way in WAYS else case.program}"] += 1
+        self.counts["answers: stretched"] += line.split(" ")[-7] == "yes"
         self.counts["answers: turned"] += bool(case.matrix())
         self.counts["answers: with a degree that wraps in the Rust"] += case.note == "degree wraps"
         self.counts["answers: with the table of another kernel"] += case.forged()
@@ -221,9 +236,9 @@ class Comparison:
             self.fail(case, f"accepted, but the Rust: {rust[0]}")
             return []
         lines = []
-        for i, question in enumerate(case.questions(int(rust[0].split(" ")[1]))):
+        for i, (question, word) in enumerate(zip(case.questions(int(rust[0].split(" ")[1])), stretched(case))):
             said = rust[i + 1] if i + 1 < len(rust) else ""
-            line = expected(i, question, said, case.unfit)
+            line = expected(i, question, said, word, case.unfit)
             if line is None:
                 self.fail(case, f"question {i}, the Rust: {said or rust[-1]}")
             else:

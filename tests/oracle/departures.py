@@ -86,16 +86,16 @@ def walks():
     yield "NI 5 for an SPK", spk(segment(series())).put(12, b"\x05"), at, ["refused 4 0"], ["opened 0", "0 error coverage 399"]
     yield "NSUM 26", spk(segment(series())).put(RECORD + 16, double(26.0)), at, ["refused 7 0"], ["opening error summary"]
     yield "1,024 bytes, FWARD 2^32 - 1", spk().put(76, b"\xff" * 4), at, ["refused 5 0"], ["opening error"]
-    yield "an ID word that goes on otherwise", spk(segment(series())).put(4, b"XYZ "), at, [f"0 forward 0 {SIX}"], ["opened 1", f"0 forward 0 {SIX}"]
+    yield "an ID word that goes on otherwise", spk(segment(series())).put(4, b"XYZ "), at, [f"0 forward 0 no {SIX}"], ["opened 1", f"0 forward 0 {SIX}"]
 
 
 def frames():
     """The same: a segment's own frame, with no frame asked and in ECLIPJ2000."""
-    at, plain, turned = ask_record(399, 3, 1.0), [f"0 forward 0 {SIX}"], [f"0 forward 0 {TURNED}"]
+    at, plain, turned = ask_record(399, 3, 1.0), [f"0 forward 0 no {SIX}"], [f"0 forward 0 no {TURNED}"]
     for frame, ours in ((1, turned), (17, plain), (13, ["0 refused 21 0"])):
         kernel = spk(Segment((399, 3, frame, 2), 0.0, 10.0, series()))
-        yield f"a segment in frame {frame}, asked with no frame", kernel, at, plain, ["opened 1", *plain]
-        yield f"a segment in frame {frame}, asked in ECLIPJ2000", kernel, at, ours, ["opened 1", *turned], QUARTER
+        yield f"a segment in frame {frame}, asked with no frame", kernel, at, plain, ["opened 1", f"0 forward 0 {SIX}"]
+        yield f"a segment in frame {frame}, asked in ECLIPJ2000", kernel, at, ours, ["opened 1", f"0 forward 0 {TURNED}"], QUARTER
     mixed = spk(segment(series(), pair=(399, 0)), Segment((301, 0, 17, 2), 0.0, 10.0, series()))
     yield "a chain of frames 1 and 17, asked in ECLIPJ2000", mixed, ask_record(399, 301, 1.0), ["0 refused 21 0"], ["opened 2", "0 chained"], QUARTER
 

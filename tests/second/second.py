@@ -52,12 +52,19 @@ CHAINED = "chained"
 # A refusal: its number and detail in RULES, "Refusals".
 Refusal = namedtuple("Refusal", "number detail")
 
-# A state's answer: its way, the segment's number where the way has one, the
-# six numbers, and the set of the frames that they are in.
-Answer = namedtuple("Answer", "way segment six frames")
+# What a segment gives: the six numbers, and whether a record was stretched.
+Value = namedtuple("Value", "six stretched")
 
-# A PCK answer: reference frame and the six numbers.
-Orientation = namedtuple("Orientation", "frame six")
+# A state's answer: its way, the segment's number where the way has one, the
+# six numbers, the set of the frames that they are in, and whether a record
+# was stretched.
+Answer = namedtuple("Answer", "way segment six frames stretched",
+                    defaults=(False,))
+
+# A PCK answer: reference frame, the six numbers, and whether a record was
+# stretched.
+Orientation = namedtuple("Orientation", "frame six stretched",
+                         defaults=(False,))
 
 # A usage statement: (supplier, count) pairs in order of number, and the
 # total.
@@ -346,7 +353,7 @@ def name(kernel, table, number):
 # Evaluating a segment
 
 def evaluate(kernel, sort, segment, number, et):
-    """The six numbers of one segment; raises refusals 12, 14, 13, 16."""
+    """The Value of one segment; raises refusals 12, 14, 13, 16."""
     kind = segment.kind
     if kind is UNSUPPORTED:
         raise Refused(12, segment.type)
@@ -356,14 +363,34 @@ def evaluate(kernel, sort, segment, number, et):
     if not well_formed or not same_kind(found, kind):
         raise Refused(14)
     if kind.type == 2:
-        return type_2(kernel, segment, number, et)
+        return Value(type_2(kernel, segment, number, et),
+                     is_off_records(et, kind))
     if kind.type == 3:
-        return type_3(kernel, segment, et)
+        return Value(type_3(kernel, segment, et), is_off_records(et, kind))
     start, c = window(kernel, segment, number, et)
     xs, rows = discrete_records(kernel, segment, start, c)
-    if kind.type == 9:
-        return type_9(xs, rows, et)
-    return type_13(xs, rows, et)
+    six = (type_9 if kind.type == 9 else type_13)(xs, rows, et)
+    return Value(six, is_off_epochs(kernel, segment, et))
+
+
+def is_off_records(et, kind):
+    """Whether floor((et - INIT)/INTLEN) is below 0 or above N-1; NaN is
+    inside, an infinity is past the end on its side."""
+    q = divide(et - kind.init, kind.intlen)
+    if math.isnan(q):
+        return False
+    if math.isinf(q):
+        return True
+    return not 0 <= math.floor(q) <= kind.n - 1
+
+
+def is_off_epochs(kernel, segment, et):
+    """Whether first <= et doesn't hold, or last < et does, of the stored
+    epochs."""
+    epochs = segment.start + 6 * segment.kind.n
+    first = double_at(kernel, epochs)
+    last = double_at(kernel, epochs + segment.kind.n - 1)
+    return not first <= et or last < et
 
 
 def same_kind(a, b):
@@ -530,16 +557,16 @@ def type_13(xs, rows, et):
 
 
 def alone(kernel, table, number, et):
-    """One segment of an SPK table alone: six numbers or a Refusal."""
+    """One segment of an SPK table alone: a Value or a Refusal."""
     return _alone(kernel, SPK, table, number, et)
 
 
 def alone_pck(kernel, table, number, et):
     """One segment of a PCK table alone: an Orientation or a Refusal."""
-    six = _alone(kernel, PCK, table, number, et)
-    if isinstance(six, Refusal):
-        return six
-    return Orientation(table.segment(number).frame, six)
+    value = _alone(kernel, PCK, table, number, et)
+    if isinstance(value, Refusal):
+        return value
+    return Orientation(table.segment(number).frame, *value)
 
 
 def _alone(kernel, sort, table, number, et):
@@ -550,12 +577,12 @@ def _alone(kernel, sort, table, number, et):
     if number >= table.count:
         return Refusal(17, 0)
     try:
-        six = evaluate(kernel, sort, table.segment(number), number, et)
+        value = evaluate(kernel, sort, table.segment(number), number, et)
     except Refused as refused:
         return refused.refusal
-    if not all_finite(six):
+    if not all_finite(value.six):
         return Refusal(15, 0)
-    return six
+    return value
 
 
 # Questions
@@ -617,52 +644,56 @@ def _answer(kernel, table, number, target, center, et):
     """Forward with the segment chosen, else reversed, else chained."""
     if number is not None:
         segment = table.segment(number)
-        six = evaluate(kernel, SPK, segment, number, et)
-        return Answer(FORWARD, number, six, frozenset([segment.frame]))
+        six, stretched = evaluate(kernel, SPK, segment, number, et)
+        return Answer(FORWARD, number, six, frozenset([segment.frame]),
+                      stretched)
     number = last_covering(table, center, target, et)
     if number is not None:
         segment = table.segment(number)
-        six = tuple(-x for x in evaluate(kernel, SPK, segment, number, et))
-        return Answer(REVERSED, number, six, frozenset([segment.frame]))
-    to_target, of_target = towards_zero(kernel, table, target, et)
-    to_center, of_center = towards_zero(kernel, table, center, et)
+        six, stretched = evaluate(kernel, SPK, segment, number, et)
+        return Answer(REVERSED, number, tuple(-x for x in six),
+                      frozenset([segment.frame]), stretched)
+    to_target, of_target, first = towards_zero(kernel, table, target, et)
+    to_center, of_center, second = towards_zero(kernel, table, center, et)
     return Answer(CHAINED, None,
                   tuple(a - b for a, b in zip(to_target, to_center)),
-                  frozenset(of_target | of_center))
+                  frozenset(of_target | of_center), first or second)
 
 
 def towards_zero(kernel, table, body, et):
-    """A body's state to body 0, in at most 32 steps, and the frames of the
-    segments that the steps took."""
+    """A body's state to body 0, in at most 32 steps, the frames of the
+    segments that the steps took, and whether one of those was stretched."""
     total = ZEROS
     frames = set()
+    stretched = False
     current = body
     for _ in range(MOST_STEPS):
         if current == 0:
-            return total, frames
-        six, segment = step(kernel, table, current, et)
-        total = tuple(a + b for a, b in zip(total, six))
+            return total, frames, stretched
+        value, segment = step(kernel, table, current, et)
+        total = tuple(a + b for a, b in zip(total, value.six))
         frames.add(segment.frame)
+        stretched = stretched or value.stretched
         current = segment.center
         if current == body:
             raise Refused(11, body)
     if current == 0:
-        return total, frames
+        return total, frames, stretched
     raise Refused(11, body)
 
 
 def step(kernel, table, current, et):
-    """The segment that the current body takes, with its state."""
+    """The segment that the current body takes, with its value."""
     taken = None
     for number in range(table.count):
         segment = table.segment(number)
         if segment.target != current or not covers(segment, et):
             continue
-        six = evaluate(kernel, SPK, segment, number, et)
+        value = evaluate(kernel, SPK, segment, number, et)
         if segment.center == 0:
-            return six, segment
+            return value, segment
         if taken is None:
-            taken = six, segment
+            taken = value, segment
     if taken is None:
         raise Refused(11, current)
     return taken
@@ -768,12 +799,12 @@ def orientation(kernel, table, body_frame, et):
     else:
         return Refusal(11, body_frame)
     try:
-        six = evaluate(kernel, PCK, segment, number, et)
+        value = evaluate(kernel, PCK, segment, number, et)
     except Refused as refused:
         return refused.refusal
-    if not all_finite(six):
+    if not all_finite(value.six):
         return Refusal(15, 0)
-    return Orientation(segment.frame, six)
+    return Orientation(segment.frame, *value)
 
 
 # Usage statements
@@ -816,8 +847,12 @@ def refused_line(refusal):
     return "refused %d %d" % refusal
 
 
-def answer_line(number, words, six):
-    return " ".join([str(number)] + words + [hexadecimal(x) for x in six])
+def answer_line(number, words, answer):
+    """The line of an answer: its words, whether a record was stretched, its
+    six numbers."""
+    return " ".join([str(number)] + words
+                    + ["yes" if answer.stretched else "no"]
+                    + [hexadecimal(x) for x in answer.six])
 
 
 def refused_answer_line(number, refusal):
@@ -910,7 +945,7 @@ def ask_lines(kernel, table, records, frame=None, rows=None):
         words = [answer.way]
         if answer.segment is not None:
             words.append(str(answer.segment))
-        lines.append(answer_line(number, words, answer.six))
+        lines.append(answer_line(number, words, answer))
     return lines
 
 
@@ -929,18 +964,18 @@ def turned_lines(function, kernel, table, records):
         if isinstance(answer, Refusal):
             lines.append(refused_answer_line(number, answer))
         else:
-            lines.append(answer_line(number, [str(answer.frame)], answer.six))
+            lines.append(answer_line(number, [str(answer.frame)], answer))
     return lines
 
 
 def alone_lines(kernel, table, records):
     lines = []
     for number, (segment, et) in enumerate(records):
-        six = alone(kernel, table, segment, et)
-        if isinstance(six, Refusal):
-            lines.append(refused_answer_line(number, six))
+        value = alone(kernel, table, segment, et)
+        if isinstance(value, Refusal):
+            lines.append(refused_answer_line(number, value))
         else:
-            lines.append(answer_line(number, [], six))
+            lines.append(answer_line(number, [], value))
     return lines
 
 

@@ -968,18 +968,18 @@ class Evaluating(Base):
         return second.alone(self.kernel, self.table, number, et)
 
     def test_alone(self):
-        self.same_bits(self.alone(0), (1.0, 0.0, 0.0, 0.0, 0.0, 0.0))
-        self.same_bits(self.alone(1), (1.0,) * 6)
-        self.same_bits(self.alone(2), (2.0, 4.0, 6.0, 1.0, 2.0, 3.0))
-        self.same_bits(self.alone(3), (2.0, 4.0, 6.0, 1.0, 2.0, 3.0))
+        self.same_bits(self.alone(0).six, (1.0, 0.0, 0.0, 0.0, 0.0, 0.0))
+        self.same_bits(self.alone(1).six, (1.0,) * 6)
+        self.same_bits(self.alone(2).six, (2.0, 4.0, 6.0, 1.0, 2.0, 3.0))
+        self.same_bits(self.alone(3).six, (2.0, 4.0, 6.0, 1.0, 2.0, 3.0))
         self.refuses(self.alone(4), 12, 1)
 
     def test_alone_covering_or_not(self):
-        self.same_bits(self.alone(0, -1e9), (1.0,) + (0.0,) * 5)
-        self.same_bits(self.alone(0, INF), (1.0,) + (0.0,) * 5)
+        self.same_bits(self.alone(0, -1e9).six, (1.0,) + (0.0,) * 5)
+        self.same_bits(self.alone(0, INF).six, (1.0,) + (0.0,) * 5)
         self.table.segments[0].first = 9.0
         self.table.segments[0].last = 1.0
-        self.same_bits(self.alone(0), (1.0,) + (0.0,) * 5)
+        self.same_bits(self.alone(0).six, (1.0,) + (0.0,) * 5)
 
     def test_alone_order(self):
         self.refuses(self.alone(5), 17)
@@ -1081,10 +1081,10 @@ class Evaluating(Base):
     def test_only_the_segment_is_tested(self):
         # The lent kernel has no file record any more; nobody looks.
         kernel = bytes(1024) + self.kernel[1024:]
-        self.same_bits(second.alone(kernel, self.table, 0, 2.0),
+        self.same_bits(second.alone(kernel, self.table, 0, 2.0).six,
                        (1.0, 0.0, 0.0, 0.0, 0.0, 0.0))
         kernel = self.kernel[:8 * self.table.segments[0].end]
-        self.same_bits(second.alone(kernel, self.table, 0, 2.0),
+        self.same_bits(second.alone(kernel, self.table, 0, 2.0).six,
                        (1.0, 0.0, 0.0, 0.0, 0.0, 0.0))
         self.refuses(second.alone(kernel[:-1], self.table, 0, 2.0), 14)
 
@@ -1384,6 +1384,220 @@ class Chains(Base):
         self.refuses(got, 11, 1)
 
 
+class Stretched(Base):
+    """Whether a record was stretched to the epoch."""
+
+    def says(self, kernel, target, center, et, frame=None):
+        table = self.opens(kernel)
+        got, _ = second.state_in(kernel, table, None, target, center, et,
+                                 frame, Frames.ROWS)
+        return got.stretched
+
+    def three(self, type_number, **words):
+        """Three records of 10 from 0 on, or three stored epochs."""
+        if type_number in (9, 13):
+            return Piece(discrete([(float(k),) * 6 for k in range(3)],
+                                  [0.0, 10.0, 20.0], 1.0),
+                         type_number=type_number, first=-100.0, last=100.0,
+                         **words)
+        size = {2: 5.0, 3: 8.0}[type_number]
+        records = [x for k in range(3)
+                   for x in [10.0 * k + 5.0, 5.0] + [1.0] * int(size - 2)]
+        return Piece(records + [0.0, 10.0, size, 3.0],
+                     type_number=type_number, first=-100.0, last=100.0,
+                     **words)
+
+    def test_records(self):
+        # The worked numbers: -5, 9, 10 and 30, the right end.
+        for type_number in (2, 3):
+            kernel = build([self.three(type_number)])
+            for et, word in ((-5.0, True), (9.0, False), (10.0, False),
+                             (30.0, True), (0.0, False), (-0.0, False),
+                             (-1e-300, True), (29.999999999999996, False),
+                             # its quotient is rounded to -0
+                             (-5e-324, False)):
+                self.assertEqual(self.says(kernel, 399, 3, et), word, et)
+
+    def test_pck(self):
+        kernel = build([self.three(2, target=3000, frame=17)], second.PCK)
+        table = second.open_pck(kernel)
+        for et, word in ((-5.0, True), (9.0, False), (30.0, True)):
+            got = second.orientation(kernel, table, 3000, et)
+            self.assertEqual(got.stretched, word)
+            got = second.alone_pck(kernel, table, 0, et)
+            self.assertEqual(got.stretched, word)
+
+    def test_infinite(self):
+        kernel = build([self.three(2)])
+        table = self.opens(kernel)
+        for et in (INF, -INF):
+            self.assertTrue(second.alone(kernel, table, 0, et).stretched)
+
+    def test_epochs(self):
+        # The last stored epoch itself is inside.
+        for type_number in (9, 13):
+            kernel = build([self.three(type_number)])
+            for et, word in ((-1.0, True), (-0.0, False), (0.0, False),
+                             (10.5, False), (20.0, False),
+                             (20.000000000000004, True)):
+                self.assertEqual(self.says(kernel, 399, 3, et), word, et)
+
+    def test_quotients(self):
+        for init, intlen, n, et, word in (
+                (0.0, 10.0, 3, NAN, False),
+                (0.0, 10.0, 3, INF, True),
+                (0.0, 10.0, 3, -INF, True),
+                # et - INIT is too large for a double, and so is the quotient
+                (-1e308, 10.0, 3, 1e308, True),
+                (1e308, 10.0, 3, -1e308, True),
+                (0.0, 1e-300, 3, 1e300, True),
+                (0.0, 1e-300, 3, -1e300, True),
+                # the smallest quotient below 0, then one that is -0
+                (0.0, 1.0, 3, -5e-324, True),
+                (0.0, 2.0, 3, -5e-324, False),
+                (0.0, 10.0, 3, -0.0, False),
+                (-0.0, 10.0, 3, 0.0, False),
+                # the last record's first epoch, and the right end
+                (0.0, 10.0, 3, 20.0, False),
+                (7.0, 10.0, 3, 36.99999999999999, False),
+                (7.0, 10.0, 3, 37.0, True),
+                (0.0, 10.0, 1, 9.0, False),
+                (0.0, 10.0, 1, 10.0, True),
+                # before the right end, and rounded to it
+                (-1.0, 1.0, 1, -5e-324, True),
+                (-1.0, 1.0, 1, -2.0 ** -53, False)):
+            kind = Chebyshev(2, init, intlen, 5, n)
+            self.assertEqual(second.is_off_records(et, kind), word,
+                             (kind, et))
+
+    def test_stored_epochs(self):
+        for epochs, et, word in (
+                # one that is NaN is at or below none, and below none
+                ([NAN, 10.0, 20.0], 30.0, True),
+                ([NAN, 10.0, 20.0], 15.0, True),
+                ([0.0, 10.0, NAN], 30.0, False),
+                ([0.0, 10.0, NAN], -1.0, True),
+                ([0.0, NAN, 20.0], 15.0, False),
+                ([0.0, 10.0, 20.0], NAN, True),
+                # one stored epoch is the first and the last
+                ([4.0], 3.0, True),
+                ([4.0], 4.0, False),
+                ([4.0], 5.0, True),
+                ([0.0], -0.0, False),
+                ([-0.0], 0.0, False),
+                # out of order: the first and the last decide
+                ([0.0, 20.0, 10.0], 15.0, True),
+                ([10.0, 0.0, 20.0], 5.0, True),
+                ([20.0, 10.0, 0.0], 10.0, True),
+                # infinite ones
+                ([0.0, 10.0, 20.0], INF, True),
+                ([0.0, 10.0, 20.0], -INF, True),
+                ([0.0, 10.0, INF], INF, False),
+                ([0.0, 10.0, INF], 1e308, False),
+                ([-INF, 10.0, 20.0], -INF, False),
+                ([-INF, 10.0, 20.0], -1e308, False)):
+            n = len(epochs)
+            segment = Segment(start=1, end=7 * n, kind=Discrete(9, 0, n))
+            kernel = doubles([0.0] * 6 * n + epochs)
+            self.assertEqual(second.is_off_epochs(kernel, segment, et), word,
+                             (epochs, et))
+
+    def test_epochs_before_a_directory(self):
+        # The last epoch is number N - 1, and no directory entry.
+        for n in (99, 100, 101, 200, 250):
+            for type_number in (9, 13):
+                kernel = build([Piece(discrete(*line(n), 3.0),
+                                      type_number=type_number,
+                                      first=-1e9, last=1e9)])
+                for et, word in ((-0.5, True), (0.0, False),
+                                 (n - 1.5, False), (n - 1.0, False),
+                                 (n - 0.5, True)):
+                    self.assertEqual(self.says(kernel, 399, 3, et), word,
+                                     (n, et))
+
+    def test_remembered(self):
+        for type_number in (2, 3, 9, 13):
+            kernel = build([self.three(type_number)])
+            table = self.opens(kernel)
+            for et, word in ((-5.0, True), (9.0, False), (40.0, True)):
+                got, memory = second.state(kernel, table, 0, 399, 3, et)
+                self.assertEqual((got.stretched, memory), (word, 0))
+
+    def test_alone_covering_or_not(self):
+        for type_number in (2, 3, 9, 13):
+            piece = self.three(type_number)
+            piece.first, piece.last = 0.0, 5.0
+            kernel = build([piece])
+            table = self.opens(kernel)
+            for et, word in ((-5.0, True), (2.0, False), (9.0, False),
+                             (40.0, True)):
+                got = second.alone(kernel, table, 0, et)
+                self.assertEqual(got.stretched, word)
+
+    def test_refusals(self):
+        # A stretched state that is refused after all: with 15, with 21,
+        # or with 11 of the center's walk.
+        def line(program, kernel, *question):
+            record = struct.pack(second.LAYOUTS[program],
+                                 second.MARKS[program], *question)
+            framed = {"matrix": doubles([1.0] * 9), "frame": "13"}
+            return second.answer_lines(
+                program, kernel, record, **framed if program == "ask" else {})
+
+        infinite = self.three(2)
+        infinite.data[2] = INF
+        self.assertEqual(line("ask", build([infinite]), 399, 3, -5.0),
+                         ["0 refused 15 0"])
+        self.assertEqual(line("alone", build([infinite]), 0, -5.0),
+                         ["0 refused 15 0"])
+        self.assertEqual(line("ask", build([self.three(2)]), 399, 3, -5.0),
+                         ["0 refused 21 0"])
+        home = build([self.three(2, target=5, center=0)])
+        self.assertEqual(line("ask", home, 5, 8, -5.0), ["0 refused 11 8"])
+        turned = self.three(2, target=3000, frame=17)
+        turned.data[2] = INF
+        self.assertEqual(
+            line("orient", build([turned], second.PCK), 3000, -5.0),
+            ["0 refused 15 0"])
+
+    def test_reversed_and_in_a_frame(self):
+        kernel = build([self.three(3)])
+        for et, word in ((-5.0, True), (9.0, False)):
+            self.assertEqual(self.says(kernel, 3, 399, et), word)
+            for frame in (1, 17):
+                self.assertEqual(self.says(kernel, 399, 3, et, frame), word)
+                self.assertEqual(self.says(kernel, 3, 399, et, frame), word)
+
+    def test_chain(self):
+        near = {"first": -100.0, "last": 100.0}
+        inside = constant(1.0)[:-4] + [-100.0, 200.0, 5.0, 1.0]
+        off = self.three(2, target=5, center=6)
+        on = Piece(inside, target=5, center=6, **near)
+        home = Piece(inside, target=6, center=0, **near)
+        off_home = self.three(2, target=6, center=0)
+        other = Piece(inside, target=8, center=0, **near)
+        for pieces, word in (
+                ([off, home, other], True),        # the first step
+                ([on, off_home, other], True),     # the last step
+                ([on, home, other], False),
+                ([on, self.three(2, target=5, center=7), home, other],
+                 False),                           # passed over for the first
+                ([off, Piece(inside, target=5, center=0, **near), home,
+                  other], False),                  # passed over for body 0
+                ([off, Piece(inside, target=5, center=7, **near), home,
+                  other], True),                   # taken, not passed over
+                ([on, self.three(2, target=5, center=0), home, other],
+                 True),                            # taken for body 0
+                ([Piece(inside, target=5, center=4, **near),
+                  self.three(9, target=4, center=6), home, other],
+                 True)):                           # a step in the middle
+            self.assertEqual(self.says(build(pieces), 5, 8, -5.0), word)
+            self.assertEqual(self.says(build(pieces), 8, 5, -5.0), word)
+
+    def test_same_body(self):
+        self.assertFalse(self.says(build([self.three(2)]), 399, 399, -5.0))
+
+
 class Frames(Base):
     ROWS = [[0.0, 1.0, 0.0], [-1.0, 0.0, 0.0], [0.0, 0.0, 1.0]]
     NANS = [[NAN] * 3] * 3
@@ -1414,29 +1628,20 @@ class Frames(Base):
         return second.state_in(kernel, self.opens(kernel), None, target,
                                center, et, frame, rows)[0]
 
-    def test_frame_1(self):
-        kernel = self.kernel((399, 3, 1))
-        for frame in (None, 1):
-            self.assertEqual(self.asked(kernel, 399, 3, frame, self.NANS),
-                             Answer("forward", 0, self.SIX, {1}))
-        self.assertEqual(self.asked(kernel, 399, 3, 17),
-                         Answer("forward", 0, self.TURNED, {17}))
-        self.assertEqual(self.asked(kernel, 3, 399, 17), Answer(
-            "reversed", 0, tuple(-x for x in self.TURNED), {17}))
-        for frame in (13, -5, 0, 2 ** 31 - 1, -2 ** 31):
-            self.refuses(self.asked(kernel, 399, 3, frame), 21)
-
-    def test_frame_17(self):
-        kernel = self.kernel((399, 3, 17))
-        for frame in (None, 17):
-            self.assertEqual(self.asked(kernel, 399, 3, frame, self.NANS),
-                             Answer("forward", 0, self.SIX, {17}))
-        self.assertEqual(self.asked(kernel, 399, 3, 1),
-                         Answer("forward", 0, self.BACK, {1}))
-        self.assertEqual(self.asked(kernel, 3, 399, 1), Answer(
-            "reversed", 0, tuple(-x for x in self.BACK), {1}))
-        for frame in (13, -5, 0):
-            self.refuses(self.asked(kernel, 399, 3, frame), 21)
+    def test_frames_1_and_17(self):
+        # Own frame, the other one by the matrix or its transpose, no third.
+        for own, other, turned in ((1, 17, self.TURNED), (17, 1, self.BACK)):
+            kernel = self.kernel((399, 3, own))
+            for frame in (None, own):
+                self.assertEqual(
+                    self.asked(kernel, 399, 3, frame, self.NANS),
+                    Answer("forward", 0, self.SIX, {own}))
+            self.assertEqual(self.asked(kernel, 399, 3, other),
+                             Answer("forward", 0, turned, {other}))
+            self.assertEqual(self.asked(kernel, 3, 399, other), Answer(
+                "reversed", 0, tuple(-x for x in turned), {other}))
+            for frame in (13, -5, 0, 2 ** 31 - 1, -2 ** 31):
+                self.refuses(self.asked(kernel, 399, 3, frame), 21)
 
     def test_frame_13(self):
         for own in (13, -5, 0, 2 ** 31 - 1, -2 ** 31):
@@ -1845,9 +2050,9 @@ class Damaged(Base):
         if isinstance(got, Refusal):
             self.assertIn(got.number, self.NUMBERS)
             return
-        six = got if not hasattr(got, "six") else got.six
-        self.assertEqual(len(six), 6)
-        self.assertTrue(second.all_finite(six))
+        self.assertEqual(len(got.six), 6)
+        self.assertTrue(second.all_finite(got.six))
+        self.assertIn(got.stretched, (True, False))
 
     def questions(self, chance, kernel, table):
         memory = chance.choice((None, 0, 3, 255, 2 ** 64 - 1))
@@ -1973,10 +2178,10 @@ class Programs(Base):
         zero = " 0000000000000000"
         minus = " 8000000000000000"
         self.assertEqual(self.with_files("ask", kernel, questions), (0, (
-            "0 same" + zero * 6 + "\n"
-            "1 forward 0 3ff0000000000000" + zero * 5 + "\n"
-            "2 reversed 0 bff0000000000000" + minus * 5 + "\n"
-            "3 chained c000000000000000" + zero * 5 + "\n"
+            "0 same no" + zero * 6 + "\n"
+            "1 forward 0 no 3ff0000000000000" + zero * 5 + "\n"
+            "2 reversed 0 no bff0000000000000" + minus * 5 + "\n"
+            "3 chained yes c000000000000000" + zero * 5 + "\n"
             "4 refused 10 0\n"
             "5 refused 11 9\n").encode(), b""))
 
@@ -1987,9 +2192,9 @@ class Programs(Base):
         lines = second.answer_lines(
             "ask", kernel, self.question(399, 3, 1.0)
             + self.question(3, 3, 1.0), matrix)
-        self.assertEqual(lines[0], "0 forward 0 " + " ".join(
+        self.assertEqual(lines[0], "0 forward 0 no " + " ".join(
             bits6((2.0, -1.0, 3.0, 5.0, -4.0, 6.0))))
-        self.assertEqual(lines[1], "1 same" + " 0000000000000000" * 6)
+        self.assertEqual(lines[1], "1 same no" + " 0000000000000000" * 6)
 
     def test_ask_frame(self):
         pieces = [Piece(constant_3(Frames.SIX), target=frame, center=0,
@@ -1999,7 +2204,7 @@ class Programs(Base):
         matrix = doubles([x for row in Frames.ROWS for x in row])
 
         def six(numbers):
-            return " ".join(bits6(numbers))
+            return "no " + " ".join(bits6(numbers))
 
         plain = ["0 forward 0 " + six(Frames.SIX),
                  "1 forward 1 " + six(Frames.SIX),
@@ -2105,7 +2310,7 @@ class Programs(Base):
                        second.PCK)
         questions = b"".join(b"\xa5\x5c" + struct.pack("<id", *q) for q in (
             (3000, 1.0), (3000, 11.0), (-1, NAN), (3000, 0.0)))
-        answer = " 17 3ff0000000000000" + " 0000000000000000" * 5 + "\n"
+        answer = " 17 no 3ff0000000000000" + " 0000000000000000" * 5 + "\n"
         self.assertEqual(
             self.with_files("orient", kernel, questions),
             (0, ("0" + answer + "1 refused 11 3000\n2 refused 10 0\n3" + answer)
@@ -2117,7 +2322,7 @@ class Programs(Base):
             (1, 1e9), (0, 1.0), (2, 1.0), (4294967295, 1.0), (1, NAN)))
         self.assertEqual(
             self.with_files("alone", kernel, questions),
-            (0, ("0 3ff0000000000000" + " 0000000000000000" * 5 + "\n"
+            (0, ("0 yes 3ff0000000000000" + " 0000000000000000" * 5 + "\n"
                  "1 refused 12 8\n2 refused 17 0\n3 refused 17 0\n"
                  "4 refused 10 0\n")
              .encode(), b""))

@@ -181,7 +181,7 @@ class Readable(unittest.TestCase):
         words = ["%016x" % draw.randrange(2**64) for _ in range(3000)]
         words += ["8000000000000000", "0000000000000001", "7ff0000000000000", "fff0000000000000", "7ff8000000000000", "7fefffffffffffff"]
         for i in range(0, len(words), 6):
-            lines = self.shown(["0 chained " + " ".join(words[i : i + 6])])[1:]
+            lines = self.shown(["0 chained no " + " ".join(words[i : i + 6])])[1:]
             found = [re.findall(r"(\S+) km(?:/s)?  ([0-9a-f]{16})", line) for line in lines]
             pairs = [line[0] for line in found] + [line[1] for line in found]
             self.assertEqual([word for _, word in pairs], words[i : i + 6])
@@ -191,15 +191,17 @@ class Readable(unittest.TestCase):
 
     def test_ways(self):
         for line, want in (("same", "same"), ("chained", "chained"), ("forward 12", "forward, segment 12"), ("reversed 0", "reversed, segment 0")):
-            self.assertEqual(self.shown([f"0 {line}{SIX}"])[0], f"question 0: {want}, in J2000")
+            self.assertEqual(self.shown([f"0 {line} no{SIX}"])[0], f"question 0: {want}, in J2000")
+            self.assertEqual(self.shown([f"0 {line} yes{SIX}"])[0], f"question 0: {want}, in J2000, a record stretched to the epoch")
 
     def test_orientation(self):
-        self.assertEqual(self.shown([f"0 forward 3{SIX}"], frame=None)[0], "question 0: forward, segment 3, as it stands")
-        self.assertEqual(self.shown([f"0 17{SIX}"])[0], "question 0: angles about reference frame ECLIPJ2000 (17)")
-        self.assertIn("rad/s", self.shown([f"0 -99{SIX}"])[1])
+        self.assertEqual(self.shown([f"0 forward 3 no{SIX}"], frame=None)[0], "question 0: forward, segment 3, as it stands")
+        self.assertEqual(self.shown([f"0 17 no{SIX}"])[0], "question 0: angles about reference frame ECLIPJ2000 (17)")
+        self.assertEqual(self.shown([f"0 17 yes{SIX}"])[0], "question 0: angles about reference frame ECLIPJ2000 (17), a record stretched to the epoch")
+        self.assertIn("rad/s", self.shown([f"0 -99 no{SIX}"])[1])
 
     def test_refused_questions(self):
-        shown = self.shown(["0 refused 11 499", f"1 same{SIX}", "2 refused 10 0"])
+        shown = self.shown(["0 refused 11 499", f"1 same no{SIX}", "2 refused 10 0"])
         self.assertEqual(shown[0], "question 0: refused 11 499: no coverage (the body without a way: Mars (499))")
         self.assertEqual(shown[-1], "question 2: refused 10 0: the epoch is NaN")
 
@@ -225,14 +227,15 @@ class Readable(unittest.TestCase):
 
     def test_bad_lines_print_nothing(self):
         asked = path("tests", "sample", "de405.questions")
-        bad = ["hello", f"1 same{SIX}", f"0 same{SIX[:-1]}", f"0 sideways{SIX}", f"0 forward{SIX}", "0 refused 18 0", f"0 same{SIX}\nrefused 2 0"]
-        bad += ["refused 11 499", f"0 same{SIX}\nrefused 10 0", "1 refused 10 0", "0 refused 22 0", "refused 20 0", "refused 22 0", "segments 2\n0 1 2 1 2 0000000000000000 0000000000000000 1 2 yes", "segments 1\n0 1 2", f"0 same{SIX}\n1 17{SIX}"]
+        bad = ["hello", f"1 same no{SIX}", f"0 same no{SIX[:-1]}", f"0 sideways no{SIX}", f"0 forward no{SIX}", "0 refused 18 0", f"0 same no{SIX}\nrefused 2 0"]
+        bad += [f"0 same{SIX}", f"0 same maybe{SIX}", f"0 17{SIX}", f"0 same{SIX} no"]
+        bad += ["refused 11 499", f"0 same no{SIX}\nrefused 10 0", "1 refused 10 0", "0 refused 22 0", "refused 20 0", "refused 22 0", "segments 2\n0 1 2 1 2 0000000000000000 0000000000000000 1 2 yes", "segments 1\n0 1 2", f"0 same no{SIX}\n1 17 no{SIX}"]
         for line in bad:
             code, out, errors = tool("readable.py", data=line.encode() + b"\n")
             self.assertEqual((code, out), (1, b""), line)
             self.assertNotIn("Traceback", errors)
-        self.assertEqual(tool("readable.py", "-q", asked, data=f"0 same{SIX}\n".encode())[0], 1)
-        self.assertEqual(tool("readable.py", data=f"0 same{SIX}".encode())[0], 1)
+        self.assertEqual(tool("readable.py", "-q", asked, data=f"0 same no{SIX}\n".encode())[0], 1)
+        self.assertEqual(tool("readable.py", data=f"0 same no{SIX}".encode())[0], 1)
 
     def test_nothing_asked(self):
         self.assertEqual(tool("readable.py", data=b"")[:2], (0, b""))

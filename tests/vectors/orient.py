@@ -96,7 +96,8 @@ def main(folder, oracle=None):
     print(len(files["kernel"]), "bytes,", len(lines), "questions")
     if oracle:
         rust = compare.run([oracle, "orient"] + paths)[1:]
-        held = [compare.expected(i, (False, False, et, None), line) for i, ((_, et), line) in enumerate(zip(questions(), rust))]
+        words = [line.split(" ")[-7:][0] for line in lines]
+        held = [compare.expected(i, (False, False, et, None), line, word) for i, ((_, et), line, word) in enumerate(zip(questions(), rust, words))]
         if held != lines:
             sys.exit("the Rust's answers are others")
         print("the Rust gives the same")

@@ -15,7 +15,7 @@ use Rattle.streams.specs.Input.{inputLimit}
 use Rattle.admission.specs.declared.Matrix.{Matrix}
 use Rattle.admission.specs.declared.Matrix.the-variants.{TooLong, Unfit, Taken}
 use Rattle.admission.specs.Order.{tooLong, anyTooLong, matrixSize, matrixFor}
-use Rattle.admission.specs.When.{When18, Short, MatrixLong}
+use Rattle.admission.specs.When.{When18, Short, MatrixLong, AllShort}
 use Rattle.admission.proofs.Exactly.{long-where, short-where, by-length}
 
 -- no two of the three are one
@@ -25,11 +25,6 @@ place Unfit = 1
 place Taken = 2
 
 module _ (kernel file matrix : List ℕ) where
-  -- No file is over the limit.
-  pub record AllShort : Type 0 where
-    pub matrix-fits : length matrix ≤ inputLimit
-    pub short : Short kernel file
-
   -- by the two tests of the code
   pub too-long : anyTooLong kernel file matrix ≡ true → matrixFor kernel file matrix ≡ TooLong
   unfolding matrixFor
@@ -57,13 +52,13 @@ module _ (kernel file matrix : List ℕ) where
       ⊎-elim (λ l. over-matrix (lt-ltb inputLimit (length matrix) l))
       (λ w. by-test (ltb inputLimit (length matrix)) over-matrix (λ e. over-others e (long-where kernel file w)))
 
-  short : AllShort → (b : Bool) → eqb (length matrix) matrixSize ≡ b → matrixFor kernel file matrix ≡ cond b Taken Unfit
-  short s b = by-size b (le-ltb inputLimit (length matrix) (s .matrix-fits)) (short-where kernel file (s .short))
+  short : AllShort kernel file matrix → (b : Bool) → eqb (length matrix) matrixSize ≡ b → matrixFor kernel file matrix ≡ cond b Taken Unfit
+  short s b = by-size b (le-ltb inputLimit (length matrix) (s .matrix-fits)) (short-where kernel file (record { kernel-fits = s .kernel-fits; file-fits = s .file-fits }))
 
-  either : MatrixLong kernel file matrix ⊎ AllShort
+  either : MatrixLong kernel file matrix ⊎ AllShort kernel file matrix
   either =
       by-test (ltb inputLimit (length matrix)) (λ a. inl (inl (ltb-true inputLimit (length matrix) a)))
-      (λ a. ⊎-elim (λ w. inl (inr w)) (λ s. inr (record { matrix-fits = ltb-false inputLimit (length matrix) a; short = s })) (by-length kernel file))
+      (λ a. ⊎-elim (λ w. inl (inr w)) (λ s. inr (record { kernel-fits = s .kernel-fits; file-fits = s .file-fits; matrix-fits = ltb-false inputLimit (length matrix) a })) (by-length kernel file))
 
   -- **exactly-when**, 18 of a run with a matrix file: one of the three files is over the limit
   pub matrix-18 : MatrixLong kernel file matrix ↔ (matrixFor kernel file matrix ≡ TooLong)
@@ -74,13 +69,13 @@ module _ (kernel file matrix : List ℕ) where
       no false e = let z : _≡_ {A = ℕ} 1 0 = ap place e in omega arith
 
   -- it goes on if and only if none is, and the matrix file has 72 bytes
-  pub matrix-taken : (AllShort × (length matrix ≡ matrixSize)) ↔ (matrixFor kernel file matrix ≡ Taken)
+  pub matrix-taken : (AllShort kernel file matrix × (length matrix ≡ matrixSize)) ↔ (matrixFor kernel file matrix ≡ Taken)
   matrix-taken = (λ w. short (w .0) true (eq-eqb (length matrix) matrixSize (w .1)), λ h. ⊎-elim (λ w. absurd (clash w h)) (λ s. (s, fits s h)) either)
     where
       clash : MatrixLong kernel file matrix → matrixFor kernel file matrix ≡ Taken → ⊥
       clash w h = let z : _≡_ {A = ℕ} 0 2 = ap place (sym (long w) ∙ h) in omega arith
 
-      fits : AllShort → matrixFor kernel file matrix ≡ Taken → length matrix ≡ matrixSize
+      fits : AllShort kernel file matrix → matrixFor kernel file matrix ≡ Taken → length matrix ≡ matrixSize
       fits s h =
           by-test (eqb (length matrix) matrixSize) (λ e. eqb-true (length matrix) matrixSize e)
           (λ e. absurd (let z : _≡_ {A = ℕ} 1 2 = ap place (sym (short s false e) ∙ h) in omega arith))

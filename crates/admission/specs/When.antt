@@ -27,6 +27,12 @@ pub record Short (kernel file : List ℕ) : Type 0 where
 abbrev pub MatrixLong : List ℕ → List ℕ → List ℕ → Type 0
 MatrixLong kernel file matrix = (inputLimit < length matrix) ⊎ When18 kernel file
 
+-- None of the three is.
+pub record AllShort (kernel file matrix : List ℕ) : Type 0 where
+  pub kernel-fits : length kernel ≤ inputLimit
+  pub file-fits : length file ≤ inputLimit
+  pub matrix-fits : length matrix ≤ inputLimit
+
 -- A record doesn't begin with its mark, or one is cut short.
 abbrev pub BadFile : ℕ → Mark → List ℕ → Type 0
 BadFile size mark file =

@@ -19,7 +19,7 @@ ghost use Rattle.ask_text.specs.FrameText.{isDigit, largest, digitsIn, a
 ghost use Rattle.ask_text.specs.Text.{answersText, askText, unfit, askOutput, askRoom};
 ghost use Rattle.ask_text.specs.Steps.{turnedFrom, answersBy, plannedText};
 use daf::Family;
-use frame::State;
+use frame::Given;
 use opening::Opened;
 use opening::Plan;
 use records::Mark;
@@ -116,34 +116,34 @@ pub fn open(kernel: &[u8], asked: &[u8]) -> Opened
     admission::open(kernel, Family::Spk, asked, SIZE, MARK)
 }
 
-// Puts the line of an answer that names no segment: its number, a word, its state.
-fn put_word_line(out: &mut [u8], at: usize, i: usize, word: &[u8], state: State) -> usize
+// Puts the line of an answer that names no segment: its number, a word, whether a record was stretched, its state.
+fn put_word_line(out: &mut [u8], at: usize, i: usize, word: &[u8], given: Given) -> usize
     requires { ⌜ (length (now word) ≤ wordRoom) × (at + answerRoom ≤ length (now out)) ⌝ }
-    ensures { λ r. ⌜ Written (now (out .entry)) at (wordLine i (now (word .entry)) state) (now (out .exit)) r ⌝ }
+    ensures { λ r. ⌜ Written (now (out .entry)) at (wordLine i (now (word .entry)) given) (now (out .exit)) r ⌝ }
     ensures { λ r. ⌜ r ≤ at + answerRoom ⌝ }
 {
     let first = lines::put_decimal(out, at, i as u64);
     let tail = lines::put(out, first, word);
-    lines::put_tail(out, tail, state)
+    lines::put_tail(out, tail, given.stretched, given.state)
 }
 
-// Puts the line of an answer that names one: its number, a word, the segment's number, its state.
+// Puts the line of an answer that names one: its number, a word, the segment's number, whether a record was stretched, its state.
 fn put_named_line(
     out: &mut [u8],
     at: usize,
     i: usize,
     word: &[u8],
-    segment: usize,
-    state: State,
+    segment: u32,
+    given: Given,
 ) -> usize
     requires { ⌜ (length (now word) ≤ wordRoom) × (at + answerRoom ≤ length (now out)) ⌝ }
-    ensures { λ r. ⌜ Written (now (out .entry)) at (namedLine i (now (word .entry)) segment state) (now (out .exit)) r ⌝ }
+    ensures { λ r. ⌜ Written (now (out .entry)) at (namedLine i (now (word .entry)) segment given) (now (out .exit)) r ⌝ }
     ensures { λ r. ⌜ r ≤ at + answerRoom ⌝ }
 {
     let first = lines::put_decimal(out, at, i as u64);
     let second = lines::put(out, first, word);
     let tail = lines::put_decimal(out, second, segment as u64);
-    lines::put_tail(out, tail, state)
+    lines::put_tail(out, tail, given.stretched, given.state)
 }
 
 // Puts the line of answer i.
@@ -154,12 +154,11 @@ pub fn put_answer(out: &mut [u8], at: usize, i: usize, answer: Answer) -> usize
 {
     let way = answer.way;
     let given = answer.given;
-    let state = given.state;
     match way {
-        Way::Same => put_word_line(out, at, i, b" same", state),
-        Way::Forward(segment) => put_named_line(out, at, i, b" forward ", segment, state),
-        Way::Reversed(segment) => put_named_line(out, at, i, b" reversed ", segment, state),
-        Way::Chained => put_word_line(out, at, i, b" chained", state),
+        Way::Same => put_word_line(out, at, i, b" same", given),
+        Way::Forward(segment) => put_named_line(out, at, i, b" forward ", segment, given),
+        Way::Reversed(segment) => put_named_line(out, at, i, b" reversed ", segment, given),
+        Way::Chained => put_word_line(out, at, i, b" chained", given),
         Way::Refused(refusal) => lines::put_numbered_refusal(out, at, i, refusal),
     }
 }

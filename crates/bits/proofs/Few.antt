@@ -1,16 +1,16 @@
 -- A double that two comparisons place between 1 and a whole number: its whole part, and the exponent's field of its pattern.
 -- Assumes nothing.
 use mathlib.Core.Path.{_≡_, refl, sym, ap, _∙_, subst}
-use mathlib.Core.Bool.{Bool, true, false, not, true≢false, false≢true}
-use Prim.Native.Nat.{ℕ, _-_, _*_, _/_, _^_, _≤_, _<_, min}
-use native.Mathlib.Nat.{le-trans, le-of-eq, lt-of-lt-of-le, mul-one, one-mul, mul-right-comm, lt-of-mul-lt-mul-right, le-of-mul-le-mul-right, div-eq-of-lt, div-lt-iff-lt-mul, le-div-iff-mul-le, zero-lt-suc}
+use mathlib.Core.Bool.{true, false, not, true≢false, false≢true}
+use Prim.Native.Nat.{ℕ, _*_, _/_, _^_, _≤_, _<_}
+use native.Mathlib.Nat.{le-trans, le-of-eq, lt-of-lt-of-le, mul-one, mul-right-comm, lt-of-mul-lt-mul-right, le-of-mul-le-mul-right, div-lt-iff-lt-mul, le-div-iff-mul-le, zero-lt-suc}
 use native.Mathlib.Omega.{arith}
 use lib.Dec.{T, ltb, lit≤}
 use lib.Ieee.{Float, nan, inf, fin, binary64, up, down, ofBits, toUnsigned, isNan, lt, le}
 use lib.Ieee.Exact.{HasValue}
 use lib.Ieee.Fits.{down-pos}
 use lib.Ieee.Order.{le-of-values}
-use lib.Ieee.Positive.{positive, above, above-of-le, values-of-le}
+use lib.Ieee.Positive.{positive, above, above-of-le, positive-of-value, values-of-le}
 use borrow.Author.Tests.{ltb-true, ltb-false}
 use Rattle.bits.specs.F64.{finite, one, whole}
 use Rattle.bits.specs.Same.{same}
@@ -67,6 +67,10 @@ part-from (fin false m e) (fin true k d) n N v p h = absurd (true≢false (v .0)
 part-from (fin false m e) (fin false k d) n N v p h =
     omega (arith, from (m * up e) (down e) (k * up d) (down d) n (down-pos e) (down-pos d) (v .1) (ltb-false _ _ h))
 
+-- the double that n was made to is n
+pub is-whole : (y : Float) (n : ℕ) → n < 2 ^ 53 → y ≡ whole n → HasValue y false n 1
+is-whole y n h e = subst (λ (x : Float). HasValue x false n 1) (sym e) (int-value n h)
+
 -- what is n is finite
 pub whole-finite : (n : ℕ) → n < 2 ^ 53 → finite (whole n) ≡ true
 whole-finite n h = go (whole n) (int-value n h)
@@ -92,33 +96,43 @@ above-number (fin s m e) p = tt
 pub above-one : (x : Float) → le one x ≡ true → T (above x)
 above-one x h = above-of-le one x one-positive (yes h)
 
-pub part-one : (x : Float) → le one x ≡ true → 1 ≤ toUnsigned 64 x
+-- what y, which is n, is at or below has a whole part from n on
+pub part-least : (x y : Float) (n : ℕ) → 1 ≤ n → n < 2 ^ 64 → HasValue y false n 1 → le y x ≡ true → n ≤ toUnsigned 64 x
 unfolding toUnsigned
-part-one x h = go x (above-one x h) (yes h)
+part-least x y n P N v h = go x (above-of-le y x (positive-of-value y n 1 v P) (yes h)) (yes h)
   where
-    go : (x : Float) → T (above x) → T (le one x) → 1 ≤ toUnsigned 64 x
+    go : (x : Float) → T (above x) → T (le y x) → n ≤ toUnsigned 64 x
     go nan p l = absurd p
     go (inf true) p l = absurd p
-    go (inf false) p l = lit≤ tt
+    go (inf false) p l = omega arith
     go (fin true m e) p l = absurd p
     go (fin false m e) p l =
-        let a = values-of-le one (fin false m e) 1 1 (m * up e) (down e) one-positive p one-value (refl, refl) l in
-        let b : 1 ≤ m * up e / down e = le-div-iff-mul-le (down-pos e) .1 (le-trans a (le-of-eq (mul-one (m * up e)))) in
+        let a = values-of-le y (fin false m e) n 1 (m * up e) (down e) (positive-of-value y n 1 v P) p v (refl, refl) l in
+        let b : n ≤ m * up e / down e = le-div-iff-mul-le (down-pos e) .1 (le-trans a (le-of-eq (mul-one (m * up e)))) in
         omega arith
 
-one-infinite : le one (inf false) ≡ true
-unfolding le ofBits
-one-infinite = refl
+infinite : (y : Float) (n : ℕ) → HasValue y false n 1 → le y (inf false) ≡ true
+unfolding le
+infinite nan n v = absurd v
+infinite (inf t) n v = absurd v
+infinite (fin t k d) n v = refl
+
+-- what it is not at or below has a smaller one: a NaN too, and what is below 0
+pub part-short : (x y : Float) (n : ℕ) → 1 ≤ n → HasValue y false n 1 → le y x ≡ false → toUnsigned 64 x < n
+unfolding toUnsigned
+part-short nan y n P v h = P
+part-short (inf true) y n P v h = P
+part-short (inf false) y n P v h = absurd (true≢false (sym (infinite y n v) ∙ h))
+part-short (fin true m e) y n P v h = P
+part-short (fin false m e) y n P v h = by-test (ltb (m * up e) (n * down e))
+    (λ t. let b : m * up e / down e < n = div-lt-iff-lt-mul (down-pos e) .1 (ltb-true _ _ t) in omega arith)
+    (λ t. absurd (true≢false (sym (as-eq _ (le-of-values y (fin false m e) n 1 (m * up e) (down e) (zero-lt-suc 0) (down-pos e) v (refl, refl) (le-trans (ltb-false _ _ t) (le-of-eq (sym (mul-one (m * up e))))))) ∙ h)))
+
+pub part-one : (x : Float) → le one x ≡ true → 1 ≤ toUnsigned 64 x
+part-one x h = part-least x one 1 (lit≤ tt) (lit≤ tt) one-value h
 
 pub part-none : (x : Float) → le one x ≡ false → toUnsigned 64 x ≡ 0
-unfolding toUnsigned
-part-none nan h = refl
-part-none (inf true) h = refl
-part-none (inf false) h = absurd (true≢false (sym one-infinite ∙ h))
-part-none (fin true m e) h = refl
-part-none (fin false m e) h = by-test (ltb (m * up e) (down e))
-    (λ t. ap (λ (k : ℕ). min k (2 ^ 64 - 1)) (div-eq-of-lt (ltb-true _ _ t)))
-    (λ t. absurd (true≢false (sym (as-eq _ (le-of-values one (fin false m e) 1 1 (m * up e) (down e) (zero-lt-suc 0) (down-pos e) one-value (refl, refl) (le-trans (le-of-eq (one-mul (down e))) (le-trans (ltb-false _ _ t) (le-of-eq (sym (mul-one (m * up e)))))))) ∙ h)))
+part-none x h = omega (arith, part-short x one 1 (lit≤ tt) one-value h)
 
 -- ---- the pattern of a double whose whole part is from 1 on and under 2 ^ 52
 

@@ -4,6 +4,7 @@ pub mod Finite
 pub mod TwoAnswers
 pub mod Whole
 pub mod Few
+pub mod Reaching
 pub mod Floor
 pub mod Patterns
 pub mod Order

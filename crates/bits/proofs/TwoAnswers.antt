@@ -23,6 +23,9 @@ use Rattle.bits.proofs.record_of_few as m-record-of-few
 use Rattle.bits.proofs.same_bits as m-same-bits
 use Rattle.bits.proofs.has_bits as m-has-bits
 use Rattle.bits.proofs.has_whole as m-has-whole
+use Rattle.bits.proofs.Reach.is_stretched as m-reach-is-stretched
+use Rattle.bits.proofs.reach_of as m-reach-of
+use Rattle.bits.proofs.reach_of_few as m-reach-of-few
 
 module _ {M : Type 1} (𝓤 : URA M) (H : Heap 𝓤) (A : Atoms 𝓤) (mem : Memory → SProp 𝓤) (run : Routine → Fun 𝓤) where
   pub two-le-u32 : Determined 𝓤 m-le-u32.ended (m-le-u32.clauses 𝓤 H A mem run)
@@ -66,3 +69,12 @@ module _ {M : Type 1} (𝓤 : URA M) (H : Heap 𝓤) (A : Atoms 𝓤) (mem : Mem
 
   pub two-has-whole : Determined 𝓤 m-has-whole.ended (m-has-whole.clauses 𝓤 H A mem run)
   two-has-whole κs a g r r' ws ws' = equal 𝓤 refl
+
+  pub two-reach-is-stretched : Determined 𝓤 m-reach-is-stretched.ended (m-reach-is-stretched.clauses 𝓤 H A mem run)
+  two-reach-is-stretched κs a g r r' ws ws' = equal 𝓤 refl
+
+  pub two-reach-of : Determined 𝓤 m-reach-of.ended (m-reach-of.clauses 𝓤 H A mem run)
+  two-reach-of κs a g r r' ws ws' = equal 𝓤 refl
+
+  pub two-reach-of-few : Determined 𝓤 m-reach-of-few.ended (m-reach-of-few.clauses 𝓤 H A mem run)
+  two-reach-of-few κs a g r r' ws ws' = equal 𝓤 refl

@@ -6,9 +6,29 @@ ghost use Prim.Native.Nat.{_+_, _*_, _/_, _^_, _≤_, _<_};
 ghost use lib.ListN.{length};
 ghost use lib.Ieee.{toUnsigned};
 ghost use Rattle.bits.specs.Bytes.{le32, le64, signed32, doubleOf, doubleAt};
-ghost use Rattle.bits.specs.Record.{recordOf};
+ghost use Rattle.bits.specs.Record.{recordOf, reachOf, isStretched};
 ghost use Rattle.bits.specs.Same.{same};
 ghost use Rattle.bits.specs.F64.{finite, whole};
+
+// Where a quotient falls beside the records of a segment: before the first, inside, or after the last.
+pub enum Reach {
+    Before,
+    Inside,
+    After,
+}
+
+impl Reach {
+    // The quotient falls in none of the records: the first or the last is stretched to it.
+    pub fn is_stretched(self) -> bool
+        ensures { λ r. ⌜ r ≡ isStretched self ⌝ }
+    {
+        match self {
+            Reach::Before => true,
+            Reach::Inside => false,
+            Reach::After => true,
+        }
+    }
+}
 
 // Four bytes as one number, the least first.
 fn join(a: u8, b: u8, c: u8, d: u8) -> u32
@@ -130,6 +150,20 @@ pub fn record_index(q: f64, n: u64) -> u64
     if k < n { k } else { n - 1 }
 }
 
+// Where q falls beside the n records. Only what is below 0 has its whole number below it: -0 has not.
+pub fn reach_of(q: f64, n: u64) -> Reach
+    requires { ⌜ 1 ≤ n ⌝ }
+    ensures { λ r. ⌜ r ≡ reachOf q n ⌝ }
+{
+    if q < 0.0 {
+        return Reach::Before;
+    }
+    if cut_u64(q) < n {
+        return Reach::Inside;
+    }
+    Reach::After
+}
+
 // The double that is n.
 fn whole_double(n: u64) -> f64
     requires { ⌜ n < 2 ^ 31 ⌝ }
@@ -160,6 +194,20 @@ pub fn record_of_few(q: f64, n: u64) -> u64
     } else {
         0
     }
+}
+
+// Where q falls beside so few records: comparisons of doubles alone, and a NaN passes neither.
+pub fn reach_of_few(q: f64, n: u64) -> Reach
+    requires { ⌜ (1 ≤ n) × (n < 2 ^ 31) ⌝ }
+    ensures { λ r. ⌜ r ≡ reachOf q n ⌝ }
+{
+    if q < 0.0 {
+        return Reach::Before;
+    }
+    if whole_double(n) <= q {
+        return Reach::After;
+    }
+    Reach::Inside
 }
 
 // Whether a and b have the same bits, and neither is a NaN.

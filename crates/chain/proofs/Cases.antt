@@ -2,7 +2,7 @@
 -- Assumes nothing.
 use Prim.Native.Nat.{ℕ, zero, suc}
 use mathlib.Core.Path.{_≡_, refl}
-use mathlib.Core.Bool.{false, cond}
+use mathlib.Core.Bool.{Bool, true, false, cond}
 use mathlib.Core.List.{List, [], _∷_}
 use lib.IntN.{pos}
 use lib.Ieee.{Float, binary64, add, le, neg, ofInt, ofBits}
@@ -25,8 +25,8 @@ use Rattle.chain.specs.Step.{met, look, stepIn, stepFrom}
 use Rattle.chain.specs.Walk.{walkFrom, toZero}
 
 -- a segment of a pair from 0 to 10, in a frame, of a type, with a number for its evaluation
-abbrev in-frame : ℕ → ℕ → ℕ → ℕ → ℕ → Segment
-in-frame f type t c x =
+abbrev made : Bool → ℕ → ℕ → ℕ → ℕ → ℕ → Segment
+made b f type t c x =
     record {
       target = pos t;
       center = pos c;
@@ -37,9 +37,15 @@ in-frame f type t c x =
       first = whole 0;
       last = whole 10;
       «name_at» = 0;
-      marked = false;
+      marked = b;
       kind = kinds.Unsupported;
     }
+
+abbrev in-frame : ℕ → ℕ → ℕ → ℕ → ℕ → Segment
+in-frame = made false
+
+abbrev stretched : ℕ → ℕ → ℕ → Segment
+stretched = made true 1 2
 
 abbrev of-type : ℕ → ℕ → ℕ → ℕ → Segment
 of-type = in-frame 1
@@ -51,10 +57,10 @@ of-pair = of-type 2
 abbrev six : Float → State
 six x = stateOf (λ k. x)
 
--- a segment of type 2 gives six times its number, -0 for 0, and one of another type is refused
+-- a segment of type 2 gives six times its number, -0 for 0, stretched where it is marked, and one of another type is refused
 abbrev evaluate : Segment → ℕ → Float → Evaluated
 evaluate s i et =
-    cond (sameZ (s .«data_type») (pos 2)) (evaluation.State (six (cond (sameZ (s .start) (pos 0)) (neg +0) (ofInt binary64 (s .start)))))
+    cond (sameZ (s .«data_type») (pos 2)) (evaluation.State (record { state = six (cond (sameZ (s .start) (pos 0)) (neg +0) (ofInt binary64 (s .start))); stretched = s .marked }))
     (evaluation.Refused (Unsupported (s .«data_type»)))
 
 -- body n about n - 1, and so on down to 1 about 0
@@ -68,10 +74,14 @@ from body et segs =
 
 -- six times a number in frame 1, in any frame, or of several
 abbrev framed : Framed → Float → Yielded
-framed f x = yielded.Given (record { state = six x; frame = f })
+framed f x = yielded.Given (record { state = six x; frame = f; stretched = false })
 
 abbrev gives : Float → Yielded
 gives = framed (One (pos 1))
+
+-- the same in frame 1, of which a record was stretched
+abbrev stretches : Float → Yielded
+stretches x = yielded.Given (record { state = six x; frame = One (pos 1); stretched = true })
 
 abbrev eleven : ℕ → Yielded
 eleven body = yielded.Refused (NoCoverage (pos body))
@@ -105,3 +115,12 @@ pub frame-cases :
     ≡ framed (One (pos 17)) (whole 3) ∷ framed Mixed (whole 3) ∷ framed (One (pos 13)) (whole 1) ∷ framed (One (pos 17)) (whole 5) ∷ framed (One (pos 17)) (whole 2) ∷ []
 unfolding toZero walkFrom stepFrom stepIn look met plusState zeroState add le neg ofInt ofBits
 frame-cases = refl
+
+-- whether a walk was stretched: by its first step, by its last, by neither; a stretched segment that is passed over counts for nothing, where the
+-- first is taken and where the one that goes to body 0 is
+pub word-cases :
+    from 5 3 (stretched 5 6 1 ∷ of-pair 6 0 2 ∷ []) ∷ from 5 3 (of-pair 5 6 1 ∷ stretched 6 0 2 ∷ []) ∷ from 5 3 (of-pair 5 6 1 ∷ of-pair 6 0 2 ∷ [])
+    ∷ from 5 3 (of-pair 5 6 1 ∷ stretched 5 7 2 ∷ of-pair 6 0 4 ∷ []) ∷ from 5 3 (stretched 5 6 1 ∷ of-pair 5 0 2 ∷ []) ∷ []
+    ≡ stretches (whole 3) ∷ stretches (whole 3) ∷ gives (whole 3) ∷ gives (whole 5) ∷ gives (whole 2) ∷ []
+unfolding toZero walkFrom stepFrom stepIn look met plusState zeroState add le neg ofInt ofBits
+word-cases = refl

@@ -14,11 +14,11 @@ use native.Mathlib.Nat.{eq-or-lt-of-le}
 use native.Mathlib.Omega.{arith}
 use lib.IntN.{ℤ}
 use Rattle.bits.proofs.Tests.{by-test}
-use Rattle.frame.specs.declared.State.{State}
 use Rattle.frame.specs.declared.Given.{Given}
 use Rattle.refusal.specs.declared.Refusal.{Refusal}
 use Rattle.refusal.specs.declared.Refusal.the-variants.{NoCoverage}
 use Rattle.segment.specs.declared.Segment.{Segment}
+use Rattle.segment.specs.declared.Valued.{Valued}
 use Rattle.segment.specs.declared.Evaluated.{Evaluated}
 use Rattle.segment.specs.declared.Evaluated.the-variants as evaluation
 use Rattle.table.specs.Segments.{seg}
@@ -39,10 +39,10 @@ use Rattle.chain.proofs.Steps.{met-home, met-else, look-past, look-seen
 refusal-eq : (r s : Refusal) → _≡_ {A = Yielded} (yielded.Refused r) (yielded.Refused s) → r ≡ s
 refusal-eq r s h = cc
 
-not-given : {X : Type 0} (x : Given) (r : Refusal) → _≡_ {A = Yielded} (yielded.Given x) (yielded.Refused r) → X
+pub not-given : {X : Type 0} (x : Given) (r : Refusal) → _≡_ {A = Yielded} (yielded.Given x) (yielded.Refused r) → X
 not-given x r h = clash (cc)
 
-not-state : {X : Type 0} (x : State) (r : Refusal) → _≡_ {A = Evaluated} (evaluation.State x) (evaluation.Refused r) → X
+not-state : {X : Type 0} (x : Valued) (r : Refusal) → _≡_ {A = Evaluated} (evaluation.State x) (evaluation.Refused r) → X
 not-state x r h = clash (cc)
 
 step-refusal : (r s : Refusal) → _≡_ {A = Step} (Refused r) (Refused s) → r ≡ s
@@ -56,6 +56,11 @@ kept-on Blocked hop e = refl
 kept-on (Kept x) hop e = refl
 kept-on (Zero x) hop e = e
 kept-on (Refused x) hop e = e
+
+-- what holds of every number below i, and of i
+pub further : (P : ℕ → Type 0) (i : ℕ) → ((j : ℕ) → j < i → P j) → P i → (j : ℕ) → j < suc i → P j
+further P i before here j l =
+    ⊎-elim (λ (e : suc j ≡ suc i). let x : i ≡ j = omega arith in subst P x here) (λ g. before j (omega arith)) (eq-or-lt-of-le l)
 
 -- ---- a step: its scan is refused exactly where a segment refuses it
 module _ (ev : Evaluation) (segs : List Segment) (leg : Leg) where
@@ -86,10 +91,6 @@ module _ (ev : Evaluation) (segs : List Segment) (leg : Leg) where
   turn kept next i k b e h =
       ap (λ (x : Step). cond (isEnd x) x (stepIn ev segs leg x (suc i) k)) e ∙ ap (λ (t : Bool). cond t next (stepIn ev segs leg next (suc i) k)) h
 
-  further : (i : ℕ) → ((j : ℕ) → j < i → Past ev segs leg j) → Past ev segs leg i → (j : ℕ) → j < suc i → Past ev segs leg j
-  further i before here j l =
-      ⊎-elim (λ (e : suc j ≡ suc i). let x : i ≡ j = omega arith in subst (Past ev segs leg) x here) (λ g. before j (omega arith)) (eq-or-lt-of-le l)
-
   step-why : (n : ℕ) (r : Refusal) (kept : Step) (i k : ℕ) → i + k ≤ n → isEnd kept ≡ false → ((j : ℕ) → j < i → Past ev segs leg j)
       → stepIn ev segs leg kept i k ≡ Refused r → (j : ℕ) × RefusedAt ev segs n leg j r
   unfolding stepIn
@@ -99,7 +100,7 @@ module _ (ev : Evaluation) (segs : List Segment) (leg : Leg) where
       go : Look kept i
           → ((next : Step) → isEnd next ≡ false → ((j : ℕ) → j < suc i → Past ev segs leg j) → stepIn ev segs leg next (suc i) k ≡ Refused r → (j : ℕ) × RefusedAt ev segs n leg j r)
           → (j : ℕ) × RefusedAt ev segs n leg j r
-      go (on next l x p) ih = ih next x (further i before p) (sym (turn kept next i k false l x) ∙ h)
+      go (on next l x p) ih = ih next x (further (Past ev segs leg) i before p) (sym (turn kept next i k false l x) ∙ h)
       go (home x l t g) ih = not-home x r (sym (turn kept (Zero x) i k true l refl) ∙ h)
       go (refused y l t v) ih =
           let same = step-refusal y r (sym (turn kept (Refused y) i k true l refl) ∙ h) in

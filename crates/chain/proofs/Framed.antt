@@ -5,12 +5,12 @@ use mathlib.Core.Bool.{Bool, true, false, cond, false≢true}
 use mathlib.Core.List.{List}
 use lib.IntN.{ℤ}
 use Rattle.bits.specs.Same.{sameZ}
-use Rattle.frame.specs.declared.State.{State}
 use Rattle.frame.specs.declared.Given.{Given}
 use Rattle.frame.specs.declared.Framed.{Framed}
 use Rattle.frame.specs.declared.Framed.the-variants.{Nothing, One, Mixed}
 use Rattle.frame.specs.Framed.{joinedWith, joined}
 use Rattle.segment.specs.declared.Segment.{Segment}
+use Rattle.segment.specs.declared.Valued.{Valued}
 use Rattle.segment.specs.declared.Evaluated.{Evaluated}
 use Rattle.segment.specs.declared.Evaluated.the-variants as evaluation
 use Rattle.table.specs.Segments.{seg}
@@ -57,7 +57,7 @@ framedStep (Zero x) = isFramed (x .frame)
 framedStep (Refused r) = true
 
 module _ (ev : Evaluation) (segs : List Segment) where
-  met-framed : (kept : Step) (s : Segment) (x : State) → framedStep kept ≡ true → framedStep (met kept s (givenBy s x)) ≡ true
+  met-framed : (kept : Step) (s : Segment) (x : Valued) → framedStep kept ≡ true → framedStep (met kept s (givenBy s x)) ≡ true
   unfolding met
   met-framed kept s x h = go (reachesZero s) kept h
     where

@@ -7,4 +7,5 @@ pub mod Failing
 pub mod Own
 pub mod Cases
 pub mod Before
+pub mod Entered
 pub mod Framed

@@ -5,9 +5,12 @@ use mathlib.Core.List.{List}
 use Prim.Native.Nat.{ℕ, suc, _+_, _-_, _≤_, _<_}
 use native.Mathlib.Numerals.{add-one}
 use native.Mathlib.Omega.{arith}
+use lib.IntN.{ℤ}
 use Rattle.frame.specs.declared.State.{State}
 use Rattle.frame.specs.declared.Given.{Given}
+use Rattle.frame.specs.Given.{givenOf}
 use Rattle.segment.specs.declared.Segment.{Segment}
+use Rattle.segment.specs.declared.Valued.{Valued}
 use Rattle.segment.specs.declared.Evaluated.{Evaluated}
 use Rattle.segment.specs.declared.Evaluated.the-variants as evaluation
 use Rattle.table.specs.Segments.{seg}
@@ -16,6 +19,10 @@ use Rattle.chain.specs.declared.Hop.{Hop}
 use Rattle.chain.specs.declared.Step.{Step}
 use Rattle.chain.specs.declared.Step.the-variants.{Blocked, Kept, Zero}
 use Rattle.chain.specs.Step.{Evaluation, leaves, reachesZero, givenBy, keptOr, met, seen, look, isEnd, placeAfter, stepIn, stepFrom}
+
+-- what is given in two frames that are one
+pub given-in : (x : State) (b : Bool) {f g : ℤ} → f ≡ g → givenOf x f b ≡ givenOf x g b
+given-in x b e = ap (λ (h : ℤ). givenOf x h b) e
 
 -- two hops are equal by their fields
 pub hop-eq : (a b : Hop) → a .center ≡ b .center → a .given ≡ b .given → a ≡ b
@@ -47,7 +54,7 @@ module _ (ev : Evaluation) (leg : Leg) (kept : Step) (s : Segment) (i : ℕ) whe
       ap (seen kept s) (sym h) ∙ sym (ap (λ (b : Bool). cond b (seen kept s (ev s i (leg .et))) kept) l)
 
   -- it gives a state
-  pub look-given : (x : State) (g : Given) (next : Step) → leaves s leg ≡ true → ev s i (leg .et) ≡ evaluation.State x → g ≡ givenBy s x → next ≡ met kept s g → next ≡ look ev leg kept s i
+  pub look-given : (x : Valued) (g : Given) (next : Step) → leaves s leg ≡ true → ev s i (leg .et) ≡ evaluation.State x → g ≡ givenBy s x → next ≡ met kept s g → next ≡ look ev leg kept s i
   look-given x g next l h e t = t ∙ ap (met kept s) e ∙ look-seen (evaluation.State x) l h
 
 -- ---- the place that the scan looks at next

@@ -3,5 +3,6 @@ pub mod Step
 pub mod Walk
 pub mod When
 pub mod Touched
+pub mod Entered
 pub mod Steps
 pub mod Before

@@ -5,10 +5,10 @@ use mathlib.Core.List.{List}
 use lib.IntN.{pos}
 use lib.Ieee.{Float}
 use Rattle.bits.specs.Same.{sameZ}
-use Rattle.frame.specs.declared.State.{State}
 use Rattle.frame.specs.declared.Given.{Given}
 use Rattle.frame.specs.Given.{givenOf}
 use Rattle.segment.specs.declared.Segment.{Segment}
+use Rattle.segment.specs.declared.Valued.{Valued}
 use Rattle.segment.specs.declared.Evaluated.{Evaluated}
 use Rattle.segment.specs.declared.Evaluated.the-variants as evaluation
 use Rattle.table.specs.Segments.{isCovering, seg}
@@ -22,9 +22,9 @@ use Rattle.chain.specs.declared.Step.the-variants.{Blocked, Kept, Zero, 
 abbrev pub Evaluation : Type 0
 Evaluation = Segment → ℕ → Float → Evaluated
 
--- What a segment gives: its state is in its own frame.
-abbrev pub givenBy : Segment → State → Given
-givenBy s x = givenOf x (s .frame)
+-- What a segment gives: its state is in its own frame, with its word.
+abbrev pub givenBy : Segment → Valued → Given
+givenBy s x = givenOf (x .state) (s .frame) (x .stretched)
 
 abbrev pub yieldOf : Segment → Evaluated → Yielded
 yieldOf s (evaluation.State x) = yielded.Given (givenBy s x)

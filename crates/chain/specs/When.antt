@@ -10,7 +10,7 @@ use lib.IntN.{ℤ}
 use Rattle.refusal.specs.declared.Refusal.{Refusal}
 use Rattle.refusal.specs.Numbers.{numberOf}
 use Rattle.segment.specs.declared.Segment.{Segment}
-use Rattle.frame.specs.declared.State.{State}
+use Rattle.segment.specs.declared.Valued.{Valued}
 use Rattle.segment.specs.declared.Evaluated.the-variants as evaluation
 use Rattle.table.specs.Segments.{seg}
 use Rattle.chain.specs.declared.Leg.{Leg}
@@ -49,7 +49,7 @@ Stuck ev segs n leg (suc left) b = stuckAfter leg b (λ on. Stuck ev segs n on l
 -- A step's scan goes past segment j: it doesn't leave the body, or it is evaluated to a state and its center is not body 0.
 abbrev pub Past : Evaluation → List Segment → Leg → ℕ → Type 0
 Past ev segs leg j =
-    leaves (seg segs j) leg ≡ true → (reachesZero (seg segs j) ≡ false) × ((x : State) × (ev (seg segs j) j (leg .et) ≡ evaluation.State x))
+    leaves (seg segs j) leg ≡ true → (reachesZero (seg segs j) ≡ false) × ((x : Valued) × (ev (seg segs j) j (leg .et) ≡ evaluation.State x))
 
 -- A step is refused with r by segment i: it leaves the body and is evaluated to r, and the scan goes past every segment before it.
 pub record RefusedAt (ev : Evaluation) (segs : List Segment) (n : ℕ) (leg : Leg) (i : ℕ) (r : Refusal) : Type 0 where

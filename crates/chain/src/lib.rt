@@ -108,7 +108,7 @@ pub fn look(kernel: &[u8], leg: Leg, kept: Step, s: Segment, i: usize) -> Step
     let e = segment::evaluate(kernel, Family::Spk, s, i as u32, leg.et);
     match e {
         Evaluated::Refused(r) => Step::Refused(r),
-        Evaluated::State(x) => kept.met(s, Given::of(x, s.frame)),
+        Evaluated::State(x) => kept.met(s, Given::of(x.state, s.frame, x.stretched)),
     }
 }
 

@@ -10,10 +10,15 @@ use Rattle.bits.specs.F64.{_⊖_, _⊗_, _⊘_, +0, one}
 use Rattle.bits.specs.Bytes.{doubleAt, every}
 use Rattle.bits.proofs.Whole.{record-lt}
 use Rattle.frame.specs.declared.State.{State}
+use Rattle.cheby.specs.declared.Chosen.{Chosen}
 use Rattle.cheby.specs.declared.Triple.{Triple}
 use Rattle.cheby.specs.declared.Cheby.the-variants.{Value, NoRadius}
 use Rattle.cheby.specs.Cheby.{seriesAt, slopeAt, coefficient, argument, valueOf, rateOf, unlessZero, record2, record3, recordFor, type2Of, type3Of}
 use Rattle.cheby.specs.Steps.{values, slopes, scaled, joined}
+
+-- a choice is its number and its reach
+pub chosen-eq : (a b : Chosen) → a .number ≡ b .number → a .reach ≡ b .reach → a ≡ b
+chosen-eq a b p q = λ i. record { number = p i; reach = q i }
 
 module _ (kernel : List ℕ) (p n : ℕ) where
   -- series c of the record stands at byte q

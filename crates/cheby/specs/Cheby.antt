@@ -7,8 +7,10 @@ use mathlib.Core.List.{List}
 use lib.Ieee.{Float, eq}
 use Rattle.bits.specs.F64.{_⊕_, _⊖_, _⊗_, _⊘_, +0, one, two, sumTo}
 use Rattle.bits.specs.Bytes.{every}
-use Rattle.bits.specs.Record.{recordOf}
+use Rattle.bits.specs.Record.{recordOf, reachOf}
+use Rattle.bits.specs.declared.Reach.{Reach}
 use Rattle.frame.specs.declared.State.{State}
+use Rattle.cheby.specs.declared.Chosen.{Chosen}
 use Rattle.cheby.specs.declared.Cheby.{Cheby}
 use Rattle.cheby.specs.declared.Cheby.the-variants.{Value, NoRadius}
 
@@ -91,9 +93,21 @@ record3 r n et =
 
 -- ---- in a kernel
 
+-- How many intervals et lies after init.
+abbrev pub quotient : Float → Float → Float → Float
+quotient init intlen et = (et ⊖ init) ⊘ intlen
+
 -- The record for et, of n that begin at init and are intlen long each.
 unfoldable pub recordFor : Float → Float → Float → ℕ → ℕ
-recordFor init intlen et n = recordOf ((et ⊖ init) ⊘ intlen) n
+recordFor init intlen et n = recordOf (quotient init intlen et) n
+
+-- Where et falls beside them.
+unfoldable pub reachFor : Float → Float → Float → ℕ → Reach
+reachFor init intlen et n = reachOf (quotient init intlen et) n
+
+-- Both.
+abbrev pub chosenFor : Float → Float → Float → ℕ → Chosen
+chosenFor init intlen et n = record { number = recordFor init intlen et n; reach = reachFor init intlen et n }
 
 -- The record of type 2 whose first double is at byte p.
 abbrev pub type2Of : List ℕ → ℕ → ℕ → Float → Cheby

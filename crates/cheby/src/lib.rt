@@ -10,9 +10,16 @@ ghost use lib.ListN.{length};
 ghost use Rattle.bits.specs.F64.{finite, +0};
 ghost use Rattle.bits.specs.Bytes.{doubleOf, doubleAt, every};
 ghost use Rattle.cheby.specs.declared.Cheby.the-variants.{Value};
-ghost use Rattle.cheby.specs.Cheby.{recordFor, type2Of, type3Of};
+ghost use Rattle.cheby.specs.Cheby.{quotient, chosenFor, type2Of, type3Of};
 ghost use Rattle.cheby.specs.Steps.{allNumbers, allFinite, each, values, slopes, none, scaled, added, joined, begun, turned, sixTurned, Summed, SixSummed, SixClear};
+use bits::Reach;
 use frame::State;
+
+// The record for an epoch, and where the epoch falls beside the records.
+pub struct Chosen {
+    pub number: u64,
+    pub reach: Reach,
+}
 
 // What a type 2 record gives.
 pub enum Cheby {
@@ -395,20 +402,39 @@ fn six_clear(kernel: &[u8], p: usize, q: usize, n: usize, s: f64) -> Six
     }
 }
 
-// The record for et, of n that begin at init and are intlen long each.
-pub fn record_at(init: f64, intlen: f64, et: f64, n: u64) -> u64
-    requires { ⌜ 1 ≤ n ⌝ }
-    ensures { λ r. ⌜ r ≡ recordFor init intlen et n ⌝ }
+// How many intervals et lies after init.
+fn quotient(init: f64, intlen: f64, et: f64) -> f64
+    ensures { λ r. ⌜ r ≡ quotient init intlen et ⌝ }
 {
-    bits::record_index((et - init) / intlen, n)
+    (et - init) / intlen
+}
+
+// The record for et, of n that begin at init and are intlen long each; one division says where et falls too.
+pub fn record_at(init: f64, intlen: f64, et: f64, n: u64) -> Chosen
+    requires { ⌜ 1 ≤ n ⌝ }
+    ensures { λ r. ⌜ r ≡ chosenFor init intlen et n ⌝ }
+{
+    let q = quotient(init, intlen, et);
+    let number = bits::record_index(q, n);
+    let reach = bits::reach_of(q, n);
+    Chosen {
+        number: number,
+        reach: reach,
+    }
 }
 
 // The same where a signed number of 32 bits holds n.
-pub fn record_of_few(init: f64, intlen: f64, et: f64, n: u64) -> u64
+pub fn record_of_few(init: f64, intlen: f64, et: f64, n: u64) -> Chosen
     requires { ⌜ (1 ≤ n) × (n < 2 ^ 31) ⌝ }
-    ensures { λ r. ⌜ r ≡ recordFor init intlen et n ⌝ }
+    ensures { λ r. ⌜ r ≡ chosenFor init intlen et n ⌝ }
 {
-    bits::record_of_few((et - init) / intlen, n)
+    let q = quotient(init, intlen, et);
+    let number = bits::record_of_few(q, n);
+    let reach = bits::reach_of_few(q, n);
+    Chosen {
+        number: number,
+        reach: reach,
+    }
 }
 
 // A state of a position and a velocity.

@@ -31,15 +31,13 @@ use Rattle.spk.specs.Answers.{refusedAnswer, sameAnswer, negatedOf}
 use Rattle.spk.specs.Asking.{Found, backward, answerTo, askedBy, asked}
 use Rattle.spk.specs.Turning.{turnedAsked}
 use Rattle.spk.specs.Runs.{InFrame}
-use Rattle.spk.specs.Before.{bareAsked}
-use Rattle.spk.proofs.Before.{asked-as-before, stands-as-before, alone-as-before}
 use Rattle.spk.proofs.ExactlyIn.{in-stands}
 use Rattle.spk.proofs.Frames.{frame-forward, frame-reversed, frame-chained, frame-same, frame-some}
 use Rattle.spk.proofs.InKernel.{framed-21}
 use Rattle.spk.proofs.OwnBytes.{named-forward, named-reversed, turned-way}
 use Rattle.indexed.proofs.Asking.{replied-same}
 use Rattle.demands.specs.Demands.{lentAsked}
-use Rattle.demands.specs.Frames.{LentSegmentFrame, LentChainFrame, LentSameFrame, LentSomeFrame, LentStands, LentOtherFrame, LentAsBefore, LentAsBeforeIn, LentAloneAsBefore, ChosenAlike, LentOwnFrame, SameAskedIn, IndexedOtherFrame, IndexedAsBefore}
+use Rattle.demands.specs.Frames.{LentSegmentFrame, LentChainFrame, LentSameFrame, LentSomeFrame, LentStands, LentOtherFrame, ChosenAlike, LentOwnFrame, SameAskedIn, IndexedOtherFrame}
 use Rattle.demands.proofs.Indexed.{right, same-asked}
 
 -- ---- the frame of an answer
@@ -62,16 +60,6 @@ lent-stands k segs n m q rot f e = in-stands (limitOf (length segs)) (evaluated 
 
 pub lent-other-frame : LentOtherFrame
 lent-other-frame k segs n m q wanted rot = framed-21 k (limitOf (length segs)) segs n m q wanted rot
-
--- ---- as before
-pub lent-as-before : LentAsBefore
-lent-as-before k segs n m q = asked-as-before (limitOf (length segs)) (evaluated Spk k) segs n m q
-
-pub lent-as-before-in : LentAsBeforeIn
-lent-as-before-in k segs n m q rot = stands-as-before (limitOf (length segs)) (evaluated Spk k) segs n m q rot
-
-pub lent-alone-as-before : LentAloneAsBefore
-lent-alone-as-before k segs n i et = alone-as-before (limitOf (length segs)) (evaluated Spk k) segs n i et
 
 -- ---- own frame
 hits-alike : (q : Question) (s s' : Segment) → ChosenAlike s s' → hits q s ≡ hits q s'
@@ -150,6 +138,3 @@ indexed-other-frame k before spare segs ix n left now m q wanted rot =
     let e = ap (λ (a : Asked). a .answer .way) (same-asked-in k before spare segs ix n left now m q wanted rot) in
     let w = lent-other-frame now segs n m q wanted rot in
     (λ x. e ∙ w .0 x, λ h. w .1 (sym e ∙ h))
-
-pub indexed-as-before : IndexedAsBefore
-indexed-as-before k before spare segs ix n left now m q = ap bareAsked (same-asked k before spare segs ix n left now m q) ∙ lent-as-before now segs n m q

@@ -5,3 +5,4 @@ pub mod Statements
 pub mod Indexed
 pub mod Outputs
 pub mod Frames
+pub mod Words

@@ -46,9 +46,10 @@ use Rattle.pck.specs.declared.Question as pck
 use Rattle.pck.specs.Orienting.{oriented}
 use Rattle.lines.specs.Text.{space, refusalText}
 use Rattle.lines.specs.Lines.{Lined}
-use Rattle.lines.proofs.Lines.{Plain as Unbroken, plain-both, OneLine, ended, in-front, word, numbered, lined, lined-alone, decimal-plain, field-plain, number-plain, tail-line, refusal-line, numbered-refusal-line}
+use Rattle.lines.proofs.Lines.{Plain as Unbroken, plain-both, OneLine, ended, in-front, word, numbered, lined, lined-alone, decimal-plain, field-plain, number-plain, yes-plain, tail-line, refusal-line, numbered-refusal-line}
 use Rattle.streams.specs.Input.{inputLimit}
 use Rattle.admission.specs.Order.{tooLong, matrixSize, recordCases}
+use Rattle.admission.specs.When.{AllShort}
 use Rattle.ask_text.specs.Records as ask-records
 use Rattle.ask_text.specs.Lines.{sameWord, forwardWord, reversedWord, chainedWord, wordLine, namedLine, wayLine, answerText}
 use Rattle.ask_text.specs.declared.FrameArgument.{FrameArgument}
@@ -61,7 +62,7 @@ use Rattle.orient_text.specs.Text as orient
 use Rattle.listing_text.specs.Lines.{markText, headText, spanText, segmentText, countText}
 use Rattle.listing_text.specs.Text as listing
 use Rattle.demands.specs.Demands.{LentAs, SameDoubles}
-use Rattle.demands.specs.Outputs.{RefusalAlone, SameRecord, AskAccepted, alone, aloneAt, AskText, AskLines, AskRefused, AskInterleaving, AskLineStays, AskOwnBytes, AllShort, AskOutput, OrientLines, OrientRefused, OrientInterleaving, OrientLineStays, OrientOutput, listingLine, ListingLines, ListingRefused, ListingOutput}
+use Rattle.demands.specs.Outputs.{RefusalAlone, SameRecord, AskAccepted, alone, aloneAt, AskText, AskLines, AskRefused, AskInterleaving, AskLineStays, AskOwnBytes, AskOutput, OrientLines, OrientRefused, OrientInterleaving, OrientLineStays, OrientOutput, listingLine, ListingLines, ListingRefused, ListingOutput}
 use Rattle.demands.proofs.Lent.{marked-right, agrees}
 
 -- ---- a refused run
@@ -91,13 +92,13 @@ answer-line : (i : ℕ) (a : Answer) → OneLine (answerText i a)
 unfolding answerText wayLine wordLine namedLine
 answer-line i a = by (a .way)
   where
-    worded : (w : List ℕ) → Unbroken w → OneLine (wordLine i w (a .given .state))
-    worded w p = in-front (decimal-plain i) (in-front p (tail-line (a .given .state)))
+    worded : (w : List ℕ) → Unbroken w → OneLine (wordLine i w (a .given))
+    worded w p = in-front (decimal-plain i) (in-front p (tail-line (a .given .stretched) (a .given .state)))
 
-    named : (w : List ℕ) → Unbroken w → (segment : ℕ) → OneLine (namedLine i w segment (a .given .state))
-    named w p segment = in-front (decimal-plain i) (in-front p (in-front (decimal-plain segment) (tail-line (a .given .state))))
+    named : (w : List ℕ) → Unbroken w → (segment : ℕ) → OneLine (namedLine i w segment (a .given))
+    named w p segment = in-front (decimal-plain i) (in-front p (in-front (decimal-plain segment) (tail-line (a .given .stretched) (a .given .state))))
 
-    by : (w : Way) → OneLine (wayLine i w (a .given .state))
+    by : (w : Way) → OneLine (wayLine i w (a .given))
     by Same = worded sameWord (word sameWord refl)
     by (Forward segment) = named forwardWord (word forwardWord refl) segment
     by (Reversed segment) = named reversedWord (word reversedWord refl) segment
@@ -267,7 +268,7 @@ unfolding orientedText turnedText
 oriented-line i a = by (a .outcome)
   where
     by : (o : Outcome) → OneLine (outcomeText i a o)
-    by outcome.Turned = in-front (decimal-plain i) (in-front (field-plain (a .frame)) (tail-line (a .angles)))
+    by outcome.Turned = in-front (decimal-plain i) (in-front (field-plain (a .frame)) (tail-line (a .stretched) (a .angles)))
     by (outcome.Refused r) = numbered-refusal-line i r
 
 orientations : (kernel file : List ℕ) (i n : ℕ) → orient.orientationsFrom kernel file i n ≡ numbered (λ k. orientedText k (orient.orientedAt kernel file k)) i n
@@ -325,8 +326,7 @@ head-plain s = plain-both (field-plain (s .target)) (plain-both (field-plain (s 
 
 mark-line : (b : Bool) → OneLine (markText b)
 unfolding markText
-mark-line true = in-front (word (space ∷ 121 ∷ 101 ∷ 115 ∷ []) refl) ended
-mark-line false = in-front (word (space ∷ 110 ∷ 111 ∷ []) refl) ended
+mark-line b = in-front (yes-plain b) ended
 
 span-line : (s : Segment) → OneLine (spanText s)
 unfolding spanText

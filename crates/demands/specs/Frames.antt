@@ -1,6 +1,5 @@
 -- What is proved of the frame of an answer, as a ledger keeper reads it. What is said of a table alone asks for no opening: it is a list of segments that
--- anybody may have written. `lentAsked` is what `lent::state` returns, `lentAskedIn` what `lent::state_in` does; the definitions from before a state went
--- with the frame of its numbers have names that begin with `old`, and `bareAsked`, `bareAnswer` leave the frame out.
+-- anybody may have written. `lentAsked` is what `lent::state` returns, `lentAskedIn` what `lent::state_in` does.
 use Prim.Native.Nat.{ℕ}
 use mathlib.Core.Path.{_≡_}
 use mathlib.Core.Bool.{true, false}
@@ -75,24 +74,6 @@ LentOtherFrame =
     (k : List ℕ) (segs : List Segment) (n : ℕ) (m : Memory) (q : Question) (wanted : Wanted) (rot : Matrix)
     → When21 (limitOf (length segs)) (evaluated Spk k) segs n m q wanted rot ↔ (lentAskedIn k segs n m q wanted rot .answer .way ≡ way.Refused OtherFrame)
 
--- **As before.** Way, state and memory of a question that names no frame are those of the definitions from before ..
-abbrev pub LentAsBefore : Type 0
-LentAsBefore =
-    (k : List ℕ) (segs : List Segment) (n : ℕ) (m : Memory) (q : Question)
-    → bareAsked (lentAsked k segs n m q) ≡ oldAsked (limitOf (length segs)) (evaluated Spk k) segs n m q
-
--- .. also where the question is asked with a matrix and no frame ..
-abbrev pub LentAsBeforeIn : Type 0
-LentAsBeforeIn =
-    (k : List ℕ) (segs : List Segment) (n : ℕ) (m : Memory) (q : Question) (rot : Matrix)
-    → bareAsked (lentAskedIn k segs n m q AsItStands rot) ≡ oldAsked (limitOf (length segs)) (evaluated Spk k) segs n m q
-
--- .. and so are those of a segment alone.
-abbrev pub LentAloneAsBefore : Type 0
-LentAloneAsBefore =
-    (k : List ℕ) (segs : List Segment) (n i : ℕ) (et : Float)
-    → bareAnswer (aloneAnswer (limitOf (length segs)) (evaluated Spk k) segs n i et) ≡ oldAlone (limitOf (length segs)) (evaluated Spk k) segs n i et
-
 -- Two segments alike in what a choice reads: the pair, the epochs and the mark.
 pub record ChosenAlike (s s' : Segment) : Type 0 where
   pub target : s .target ≡ s' .target
@@ -116,17 +97,10 @@ SameAskedIn =
     → (now : List ℕ) (m : Memory) (q : Question) (wanted : Wanted) (rot : Matrix)
     → askedInWith (limitOf (length segs)) (evaluated Spk now) segs n ix m q wanted rot ≡ lentAskedIn now segs n m q wanted rot
 
--- .. so it is 21 exactly when it is 21 without ..
+-- .. so it is 21 exactly when it is 21 without.
 abbrev pub IndexedOtherFrame : Type 0
 IndexedOtherFrame =
     (k : List ℕ) (before : List Segment) (spare : List ℕ) (segs : List Segment) (ix : List ℕ) (n : ℕ) → IndexedAs Spk k before spare segs ix n
     → (now : List ℕ) (m : Memory) (q : Question) (wanted : Wanted) (rot : Matrix)
     → When21 (limitOf (length segs)) (evaluated Spk now) segs n m q wanted rot
     ↔ (askedInWith (limitOf (length segs)) (evaluated Spk now) segs n ix m q wanted rot .answer .way ≡ way.Refused OtherFrame)
-
--- .. and with no frame it is answered as before.
-abbrev pub IndexedAsBefore : Type 0
-IndexedAsBefore =
-    (k : List ℕ) (before : List Segment) (spare : List ℕ) (segs : List Segment) (ix : List ℕ) (n : ℕ) → IndexedAs Spk k before spare segs ix n
-    → (now : List ℕ) (m : Memory) (q : Question)
-    → bareAsked (askedWith (limitOf (length segs)) (evaluated Spk now) segs n ix m q) ≡ oldAsked (limitOf (length segs)) (evaluated Spk now) segs n m q

@@ -4,3 +4,4 @@ pub mod Statements
 pub mod Indexed
 pub mod Outputs
 pub mod Frames
+pub mod Words

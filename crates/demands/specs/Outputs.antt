@@ -23,6 +23,7 @@ use Rattle.lines.specs.Text.{refusalText}
 use Rattle.lines.specs.Lines.{lineAt, Lined}
 use Rattle.streams.specs.Input.{inputLimit}
 use Rattle.admission.specs.Order.{matrixSize}
+use Rattle.admission.specs.When.{AllShort}
 use Rattle.ask_text.specs.Records as ask-records
 use Rattle.ask_text.specs.Lines.{answerText}
 use Rattle.ask_text.specs.declared.FrameArgument.the-variants.{Number, NoNumber}
@@ -94,12 +95,6 @@ AskOwnBytes =
     → TouchedReplied lentLimit (evaluated Spk kernel) (ask.tableIn kernel) (ask.countIn kernel) Blank (ask.askingAt file matrix frame i)
     (λ s. SameDoubles kernel kernel' (seg (ask.tableIn kernel) s))
     → lineAt (ask.askText kernel file matrix frame) i ≡ lineAt (ask.askText kernel' file matrix frame) i
-
--- Of the three files none is too long.
-pub record AllShort (kernel file matrix : List ℕ) : Type 0 where
-  pub kernel-fits : length kernel ≤ inputLimit
-  pub file-fits : length file ≤ inputLimit
-  pub matrix-fits : length matrix ≤ inputLimit
 
 -- **What the program prints**, `frame` being the text of FRAME. Where a file is too long, the line of 18 alone; else nothing, where a matrix file is given
 -- (`turned`) that has not 72 bytes, or FRAME is no number; else that text, with a matrix file in the frame that FRAME names.

@@ -40,8 +40,8 @@ pub transpose-twice : (m : Matrix) → transposeOf (transposeOf m) ≡ matrix 3 
 transpose-twice m = refl
 
 -- what stands with numbers of a frame is equal by its fields
-pub given-eq : (a b : Given) → a .state ≡ b .state → a .frame ≡ b .frame → a ≡ b
-given-eq a b p q = λ i. record { state = p i; frame = q i }
+pub given-eq : (a b : Given) → a .state ≡ b .state → a .frame ≡ b .frame → a .stretched ≡ b .stretched → a ≡ b
+given-eq a b p q r = λ i. record { state = p i; frame = q i; stretched = r i }
 
 -- how a state is turned from one frame to another, by the three tests
 pub turn-by : (from to : ℤ) (a b c : Bool) → sameZ from to ≡ a → isForth from to ≡ b → isForth to from ≡ c → turnFrom from to ≡ cond a Stands (cond b Forth (cond c Back Never))

@@ -1,14 +1,16 @@
 -- Worked examples that antt computes: each is closed by `refl`, and every definition on the way is named on the `unfolding` line.
 use Prim.Native.Nat.{ℕ, _+_, _*_}
 use mathlib.Core.Path.{_≡_, refl}
-use mathlib.Core.Bool.{true, false}
+use mathlib.Core.Bool.{Bool, true, false}
 use mathlib.Core.List.{List, [], _∷_, map}
 use lib.IntN.{ℤ, pos}
 use lib.Ieee.{Float, nan, inf, add, sub, mul, neg, ofInt, ofBits, binary64}
 use Rattle.bits.specs.F64.{+0, whole}
 use Rattle.frame.specs.State.{stateOf, zeroState, negatedState, plusState, minusState, finiteState}
 use Rattle.frame.specs.Frame.{Matrix, matrix, turnedState, transposeOf}
+use Rattle.frame.specs.Given.{nothingGiven, givenOf, negatedGiven, plusGiven, minusGiven, turnedGiven}
 use Rattle.frame.specs.declared.State.{State}
+use Rattle.frame.specs.declared.Given.{Given}
 use Rattle.frame.specs.Framed.{joined, turnOf}
 use Rattle.frame.specs.declared.Framed.the-variants.{Nothing, One, Mixed}
 use Rattle.frame.specs.declared.Turn.the-variants.{Stands, Forth, Back, Never}
@@ -24,6 +26,10 @@ state a b c d e f = record { x = a; y = b; z = c; vx = d; vy = e; vz = f }
 -- The state (1, 2, 3, 4, 5, 6).
 abbrev pub counted : State
 counted = stateOf (λ k. whole (k + 1))
+
+-- It in frame 1, stretched or not.
+abbrev pub inOne : Bool → Given
+inOne b = givenOf counted (pos 1) b
 
 -- The six numbers are -0.
 abbrev pub minusZeros : State
@@ -97,3 +103,11 @@ pub turns :
     map (turnOf (One (pos 1))) frames ∷ map (turnOf (One (pos 17))) frames ∷ map (turnOf (One (pos 13))) frames ∷ map (turnOf Mixed) frames ∷ map (turnOf Nothing) frames ∷ []
     ≡ (Stands ∷ Forth ∷ Never ∷ []) ∷ (Back ∷ Stands ∷ Never ∷ []) ∷ (Never ∷ Never ∷ Stands ∷ []) ∷ (Never ∷ Never ∷ Never ∷ []) ∷ (Never ∷ Never ∷ Never ∷ []) ∷ []
 turns = refl
+
+-- Whether a record was stretched: nothing given says no; a sum and a difference say yes where one of the two does; the other sign and a matrix keep it.
+pub words :
+    map (λ (g : Given). g .stretched)
+    (nothingGiven ∷ plusGiven (inOne true) (inOne false) ∷ plusGiven (inOne false) (inOne true) ∷ minusGiven (inOne true) (inOne false) ∷ minusGiven (inOne false) (inOne true)
+    ∷ minusGiven (inOne false) (inOne false) ∷ negatedGiven (inOne true) ∷ turnedGiven unit (pos 17) (inOne true) ∷ [])
+    ≡ false ∷ true ∷ true ∷ true ∷ true ∷ false ∷ true ∷ true ∷ []
+words = refl

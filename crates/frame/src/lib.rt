@@ -2,6 +2,7 @@
 // The Rust's loops over 3 places are written out: the operations and their order stay.
 
 ghost use mathlib.Core.Path.{_≡_};
+ghost use mathlib.Core.Bool.{_||_};
 ghost use Rattle.frame.specs.State.{zeroState, negatedState, plusState, minusState, finiteState};
 ghost use Rattle.bits.specs.Same.{sameZ};
 ghost use Rattle.frame.specs.Frame.{turnedState, transposeOf};
@@ -242,10 +243,18 @@ impl Framed {
 
 // ---- a state, with what is known of it
 
-// A state that segments gave, and the frame of its numbers.
+// A state that segments gave, the frame of its numbers, and whether a record of one of them was stretched.
 pub struct Given {
     pub state: State,
     pub frame: Framed,
+    pub stretched: bool,
+}
+
+// One of two, or both.
+fn either(a: bool, b: bool) -> bool
+    ensures { λ r. ⌜ r ≡ (a || b) ⌝ }
+{
+    a || b
 }
 
 impl Given {
@@ -257,16 +266,18 @@ impl Given {
         Given {
             state: state,
             frame: Framed::Nothing,
+            stretched: false,
         }
     }
 
-    // A state in a frame.
-    pub fn of(state: State, frame: i32) -> Given
-        ensures { λ r. ⌜ r ≡ givenOf state frame ⌝ }
+    // A state in a frame, stretched or not.
+    pub fn of(state: State, frame: i32, stretched: bool) -> Given
+        ensures { λ r. ⌜ r ≡ givenOf state frame stretched ⌝ }
     {
         Given {
             state: state,
             frame: Framed::One(frame),
+            stretched: stretched,
         }
     }
 
@@ -279,6 +290,7 @@ impl Given {
         Given {
             state: state,
             frame: frame,
+            stretched: self.stretched,
         }
     }
 
@@ -290,9 +302,11 @@ impl Given {
         let one = self.frame;
         let other = b.frame;
         let frame = one.joined(other);
+        let stretched = either(self.stretched, b.stretched);
         Given {
             state: state,
             frame: frame,
+            stretched: stretched,
         }
     }
 
@@ -304,9 +318,11 @@ impl Given {
         let one = self.frame;
         let other = b.frame;
         let frame = one.joined(other);
+        let stretched = either(self.stretched, b.stretched);
         Given {
             state: state,
             frame: frame,
+            stretched: stretched,
         }
     }
 
@@ -314,6 +330,6 @@ impl Given {
     pub fn turned(self, rot: [[f64; 3]; 3], to: i32) -> Given
         ensures { λ r. ⌜ r ≡ turnedGiven rot to self ⌝ }
     {
-        Given::of(rotate_state_inertial(rot, self.state), to)
+        Given::of(rotate_state_inertial(rot, self.state), to, self.stretched)
     }
 }

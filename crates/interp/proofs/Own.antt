@@ -1,16 +1,16 @@
 -- Types 9 and 13 read nothing but their own segment: its n epochs, and the states of the window.
 -- Assumes nothing.
-use Prim.Native.Nat.{ℕ, _+_, _*_, _≤_, _<_}
+use Prim.Native.Nat.{ℕ, _+_, _-_, _*_, _≤_, _<_}
 use mathlib.Core.List.{List}
-use mathlib.Core.Path.{_≡_, refl, ap, sym, _∙_}
+use mathlib.Core.Path.{_≡_, ap, sym, _∙_}
 use native.Mathlib.Omega.{arith}
 use lib.Ieee.{Float, le}
 use Rattle.bits.specs.Bytes.{doubleAt, every}
 use Rattle.bits.proofs.Agree.{Agree}
 use Rattle.hermite.proofs.Own.{column-same, hermite-own}
-use Rattle.interp.specs.Window.{leftAt, windowSize}
+use Rattle.interp.specs.Window.{leftAt, windowSize, reachIn}
 use Rattle.interp.specs.Lagrange.{lagrangeOf}
-use Rattle.interp.specs.Discrete.{windowAt, lagrangeAt, type9Of, type13Of}
+use Rattle.interp.specs.Discrete.{windowAt, reachAt, lagrangeAt, type9Of, type13Of}
 use Rattle.interp.proofs.Same.{left-same, lagrange-same, six-same}
 use Rattle.interp.proofs.Window.{size-some, window-inside}
 
@@ -49,6 +49,11 @@ module _ {s s′ : List ℕ} {p n d : ℕ} {et : Float} (a : Alike s s′ p n d 
   unfolding windowAt leftAt
   window-own =
       rw (left-same (λ k. le (every 8 s (p + 48 * n) k) et) (λ k. le (every 8 s′ (p + 48 * n) k) et) n (λ k l. ap (λ (y : Float). le y et) (a .epochs k l)))
+
+  -- Where et falls beside the epochs is the same.
+  pub reach-own : 1 ≤ n → reachAt s p n et ≡ reachAt s′ p n et
+  unfolding reachIn
+  reach-own h = rw (a .epochs 0 h, a .epochs (n - 1) (omega arith))
 
   -- its epochs are among the segment's
   window-epochs : (w : ℕ) → w + windowSize d n ≤ n → Agree (every 8 s (p + 48 * n + 8 * w)) (every 8 s′ (p + 48 * n + 8 * w)) (windowSize d n)

@@ -15,6 +15,7 @@ use Rattle.interp.proofs.left_at as m-left-at
 use Rattle.interp.proofs.window_at as m-window-at
 use Rattle.interp.proofs.type9_at as m-type9-at
 use Rattle.interp.proofs.type13_at as m-type13-at
+use Rattle.interp.proofs.reach_at as m-reach-at
 
 module _ {M : Type 1} (𝓤 : URA M) (H : Heap 𝓤) (A : Atoms 𝓤) (mem : Memory → SProp 𝓤) (run : Routine → Fun 𝓤) where
   pub two-window-size : Determined 𝓤 m-window-size.ended (m-window-size.clauses 𝓤 H A mem run)
@@ -34,3 +35,6 @@ module _ {M : Type 1} (𝓤 : URA M) (H : Heap 𝓤) (A : Atoms 𝓤) (mem : Mem
 
   pub two-type13-at : Determined 𝓤 m-type13-at.ended (m-type13-at.clauses 𝓤 H A mem run)
   two-type13-at κs a g r r' ws ws' = equal 𝓤 refl
+
+  pub two-reach-at : Determined 𝓤 m-reach-at.ended (m-reach-at.clauses 𝓤 H A mem run)
+  two-reach-at κs a g r r' ws ws' = equal 𝓤 refl

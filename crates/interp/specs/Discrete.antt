@@ -3,9 +3,10 @@ use Prim.Native.Nat.{ℕ, _+_, _*_}
 use mathlib.Core.List.{List}
 use lib.Ieee.{Float}
 use Rattle.bits.specs.Bytes.{every}
+use Rattle.bits.specs.declared.Reach.{Reach}
 use Rattle.frame.specs.declared.State.{State}
 use Rattle.hermite.specs.Axes.{hermiteAt}
-use Rattle.interp.specs.Window.{leftAt, windowSize, windowStart}
+use Rattle.interp.specs.Window.{leftAt, windowSize, windowStart, reachIn}
 use Rattle.interp.specs.Lagrange.{lagrangeOf}
 
 -- The six numbers of a state, position and then velocity, where f gives the number that stands at a byte of the states.
@@ -15,6 +16,10 @@ six f q = record { x = f q; y = f (q + 8); z = f (q + 16); vx = f (q + 24); vy =
 -- Where the window for et starts.
 unfoldable pub windowAt : List ℕ → ℕ → ℕ → ℕ → Float → ℕ
 windowAt s p n d et = windowStart (leftAt s (p + 48 * n) n et) (windowSize d n) n
+
+-- Where et falls beside the segment's epochs.
+abbrev pub reachAt : List ℕ → ℕ → ℕ → Float → Reach
+reachAt s p n et = reachIn (every 8 s (p + 48 * n)) n et
 
 -- Six numbers by Lagrange over c states from byte q on and their epochs from byte e on.
 unfoldable pub lagrangeAt : List ℕ → ℕ → ℕ → ℕ → Float → State

@@ -3,8 +3,10 @@ use Prim.Native.Nat.{ℕ, zero, suc, _+_, _-_, _/_, min}
 use mathlib.Core.Bool.{Bool, cond}
 use mathlib.Core.List.{List}
 use lib.Dec.{ltb}
-use lib.Ieee.{Float, le}
+use lib.Ieee.{Float, lt, le}
 use Rattle.bits.specs.Bytes.{every}
+use Rattle.bits.specs.declared.Reach.{Reach}
+use Rattle.bits.specs.declared.Reach.the-variants.{Before, Inside, After}
 
 -- The place that bisection of lo .. hi finds, in at most d turns: p says of a place whether its epoch is at or below the one asked.
 -- It is defined by its own run, for any epochs, sorted or not. With d at least hi - lo it ends because lo meets hi.
@@ -33,3 +35,7 @@ windowSize d n = min (d + 1) n
 -- A difference that would be below 0 is 0.
 unfoldable pub windowStart : ℕ → ℕ → ℕ → ℕ
 windowStart l c n = min (l - (c - 1) / 2) (n - c)
+
+-- Where et falls beside the epochs of n records: before the first where first ≤ et doesn't hold, else after the last where last < et, else inside.
+unfoldable pub reachIn : (ℕ → Float) → ℕ → Float → Reach
+reachIn epoch n et = cond (le (epoch 0) et) (cond (lt (epoch (n - 1)) et) After Inside) Before

@@ -2,13 +2,14 @@
 
 mod lagrange;
 
+use bits::Reach;
 use frame::State;
 use lagrange::lagrange_at;
 ghost use mathlib.Core.Path.{_≡_};
 ghost use Prim.Native.Nat.{_+_, _*_, _-_, _≤_, _<_, min};
 ghost use lib.ListN.{length};
 ghost use Rattle.interp.specs.Window.{leftAt, windowSize, windowStart};
-ghost use Rattle.interp.specs.Discrete.{windowAt, type9Of, type13Of};
+ghost use Rattle.interp.specs.Discrete.{windowAt, reachAt, type9Of, type13Of};
 
 // How many records a window has: degree + 1, or n where there are no more.
 pub fn window_size(degree: u64, n: u64) -> u64
@@ -65,6 +66,20 @@ pub fn window_at(kernel: &[u8], p: usize, n: usize, degree: u64, et: f64) -> usi
 {
     let l = left_at(kernel, p + 48 * n, n, et);
     window_start(l, window_size(degree, n as u64) as usize, n)
+}
+
+// Where et falls beside the epochs of such a segment.
+pub fn reach_at(kernel: &[u8], p: usize, n: usize, et: f64) -> Reach
+    requires { ⌜ (1 ≤ n) × (p + 56 * n ≤ length (now kernel)) ⌝ }
+    ensures { λ r. ⌜ r ≡ reachAt (now (kernel .entry)) p n et ⌝ }
+{
+    if !(bits::double_at(kernel, p + 48 * n) <= et) {
+        return Reach::Before;
+    }
+    if bits::double_at(kernel, p + 48 * n + 8 * (n - 1)) < et {
+        return Reach::After;
+    }
+    Reach::Inside
 }
 
 // A type 9 segment at et: Lagrange over the window.

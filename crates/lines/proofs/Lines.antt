@@ -17,7 +17,7 @@ use Rattle.io.specs.Digits.{glyph, digits}
 use Rattle.frame.specs.declared.State.{State}
 use Rattle.refusal.specs.declared.Refusal.{Refusal}
 use Rattle.refusal.specs.Numbers.{numberOf, detailOf}
-use Rattle.lines.specs.Text.{space, newline, minus, decimalIn, decimalText, signedText, fieldText, numberText, stateText, tailText, refusedWord, refusalText, numberedRefusalText}
+use Rattle.lines.specs.Text.{space, newline, minus, decimalIn, decimalText, signedText, fieldText, numberText, stateText, yesText, tailText, refusedWord, refusalText, numberedRefusalText}
 use Rattle.lines.specs.Lines.{before, textLines, lineAt, Lined}
 
 -- no code of a text is a newline
@@ -155,10 +155,15 @@ state-plain s =
     (plain-both (number-plain (s .vx))
     (plain-both (number-plain (s .vy)) (number-plain (s .vz))))))
 
+pub yes-plain : (b : Bool) → Plain (yesText b)
+unfolding yesText
+yes-plain true = word (space ∷ 121 ∷ 101 ∷ 115 ∷ []) refl
+yes-plain false = word (space ∷ 110 ∷ 111 ∷ []) refl
+
 -- ---- and so each is one line
-pub tail-line : (s : State) → OneLine (tailText s)
+pub tail-line : (b : Bool) (s : State) → OneLine (tailText b s)
 unfolding tailText
-tail-line s = in-front (state-plain s) ended
+tail-line b s = in-front (yes-plain b) (in-front (state-plain s) ended)
 
 pub refusal-line : (r : Refusal) → OneLine (refusalText r)
 unfolding refusalText

@@ -21,6 +21,7 @@ use Rattle.lines.proofs.put_tail as m-put-tail
 use Rattle.lines.proofs.put_refusal as m-put-refusal
 use Rattle.lines.proofs.put_numbered_refusal as m-put-numbered-refusal
 use Rattle.lines.proofs.room as m-room
+use Rattle.lines.proofs.put_yes as m-put-yes
 
 module _ {M : Type 1} (𝓤 : URA M) (H : Heap 𝓤) (A : Atoms 𝓤) (mem : Memory → SProp 𝓤) (run : Routine → Fun 𝓤) where
   pub two-bits-of : Determined 𝓤 m-bits-of.ended (m-bits-of.clauses 𝓤 H A mem run)
@@ -55,3 +56,6 @@ module _ {M : Type 1} (𝓤 : URA M) (H : Heap 𝓤) (A : Atoms 𝓤) (mem : Mem
 
   pub two-room : Determined 𝓤 m-room.ended (m-room.clauses 𝓤 H A mem run)
   two-room κs a g r r' ws ws' = equal 𝓤 refl
+
+  pub two-put-yes : Determined 𝓤 m-put-yes.ended (m-put-yes.clauses 𝓤 H A mem run)
+  two-put-yes κs a g r r' ws ws' = first-alike 𝓤 (two-buffers (ws .1))

@@ -5,7 +5,7 @@ use mathlib.Core.List.{List, [], _∷_, map}
 use lib.IntN.{ℤ, pos, negsuc}
 use lib.Ieee.{fin, toBits}
 use Rattle.refusal.specs.declared.Refusal.the-variants.{EpochNan, NoCoverage}
-use Rattle.lines.specs.Text.{decimalText, signedText, numberText, refusalText, numberedRefusalText}
+use Rattle.lines.specs.Text.{decimalText, signedText, numberText, yesText, refusalText, numberedRefusalText}
 use Rattle.lines.specs.Lines.{textLines}
 
 -- 0, 10 and the largest number of 64 bits: 18446744073709551615.
@@ -27,6 +27,11 @@ tens = refl
 pub zeros : numberText (fin true 0 (pos 0)) ≡ 32 ∷ 56 ∷ 48 ∷ 48 ∷ 48 ∷ 48 ∷ 48 ∷ 48 ∷ 48 ∷ 48 ∷ 48 ∷ 48 ∷ 48 ∷ 48 ∷ 48 ∷ 48 ∷ 48 ∷ []
 unfolding numberText toBits
 zeros = refl
+
+-- `yes` and `no`, each after a space.
+pub words : map yesText (true ∷ false ∷ []) ≡ (32 ∷ 121 ∷ 101 ∷ 115 ∷ []) ∷ (32 ∷ 110 ∷ 111 ∷ []) ∷ []
+unfolding yesText
+words = refl
 
 -- `refused 11 -5` and a newline.
 pub refused : refusalText (NoCoverage (negsuc 4)) ≡ 114 ∷ 101 ∷ 102 ∷ 117 ∷ 115 ∷ 101 ∷ 100 ∷ 32 ∷ 49 ∷ 49 ∷ 32 ∷ 45 ∷ 53 ∷ 10 ∷ []

@@ -11,9 +11,13 @@ decimalRoom = 20
 abbrev pub fieldRoom : ℕ
 fieldRoom = 22
 
--- Six numbers of a space and 16 digits, and the newline.
+-- A space and `yes`.
+abbrev pub yesRoom : ℕ
+yesRoom = 4
+
+-- A space and `yes`, six numbers of a space and 16 digits, and the newline.
 abbrev pub tailRoom : ℕ
-tailRoom = 103
+tailRoom = 107
 
 -- The line of a refusal; and of a refused question, its number before it.
 abbrev pub refusalRoom : ℕ

@@ -1,6 +1,6 @@
 -- The parts of the programs' lines, as lists of ASCII codes.
 use Prim.Native.Nat.{ℕ, zero, suc, _/_, _%_}
-use mathlib.Core.Bool.{cond}
+use mathlib.Core.Bool.{Bool, true, false, cond}
 use mathlib.Core.List.{List, [], _∷_, _++_}
 use lib.Dec.{ltb}
 use lib.IntN.{ℤ, pos, negsuc}
@@ -48,9 +48,14 @@ unfoldable pub stateText : State → List ℕ
 unfolding numberText
 stateText s = numberText (s .x) ++ (numberText (s .y) ++ (numberText (s .z) ++ (numberText (s .vx) ++ (numberText (s .vy) ++ numberText (s .vz)))))
 
--- The end of an answer's line: its six numbers and the newline.
-unfoldable pub tailText : State → List ℕ
-tailText s = stateText s ++ (newline ∷ [])
+-- `yes` or `no`, after a space.
+unfoldable pub yesText : Bool → List ℕ
+yesText true = space ∷ 121 ∷ 101 ∷ 115 ∷ []
+yesText false = space ∷ 110 ∷ 111 ∷ []
+
+-- The end of an answer's line: whether a record was stretched, its six numbers and the newline.
+unfoldable pub tailText : Bool → State → List ℕ
+tailText b s = yesText b ++ (stateText s ++ (newline ∷ []))
 
 -- `refused` and a space.
 abbrev pub refusedWord : List ℕ

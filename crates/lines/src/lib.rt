@@ -5,9 +5,9 @@ ghost use Prim.Native.Nat.{_+_, _≤_, _<_};
 ghost use lib.ListN.{length};
 ghost use lib.IntN.{natAbs};
 ghost use lib.Ieee.{binary64, toBits};
-ghost use Rattle.lines.specs.Text.{decimalText, signedText, fieldText, numberText, stateText, tailText, refusalText, numberedRefusalText};
+ghost use Rattle.lines.specs.Text.{decimalText, signedText, fieldText, numberText, stateText, yesText, tailText, refusalText, numberedRefusalText};
 ghost use Rattle.lines.specs.Written.{Written};
-ghost use Rattle.lines.specs.Room.{decimalRoom, fieldRoom, tailRoom, refusalRoom, numberedRefusalRoom, textRoom, capped};
+ghost use Rattle.lines.specs.Room.{decimalRoom, fieldRoom, yesRoom, tailRoom, refusalRoom, numberedRefusalRoom, textRoom, capped};
 use frame::State;
 use refusal::Refusal;
 
@@ -17,8 +17,8 @@ pub const DECIMAL: usize = 20;
 // The most bytes of a signed number after a space.
 pub const FIELD: usize = 22;
 
-// The bytes of six numbers and the newline.
-pub const TAIL: usize = 103;
+// The most bytes of a word, six numbers and the newline.
+pub const TAIL: usize = 107;
 
 // The most bytes of a refusal's line.
 pub const REFUSAL: usize = 51;
@@ -119,13 +119,27 @@ pub fn put_state(out: &mut [u8], at: usize, s: State) -> usize
     put_number(out, vz, s.vz)
 }
 
-// Puts the end of an answer's line: its six numbers and the newline.
-pub fn put_tail(out: &mut [u8], at: usize, s: State) -> usize
+// Puts `yes` or `no` after a space.
+pub fn put_yes(out: &mut [u8], at: usize, yes: bool) -> usize
+    requires { ⌜ at + yesRoom ≤ length (now out) ⌝ }
+    ensures { λ r. ⌜ Written (now (out .entry)) at (yesText yes) (now (out .exit)) r ⌝ }
+    ensures { λ r. ⌜ r ≤ at + yesRoom ⌝ }
+{
+    if yes {
+        put(out, at, b" yes")
+    } else {
+        put(out, at, b" no")
+    }
+}
+
+// Puts the end of an answer's line: whether a record was stretched, its six numbers and the newline.
+pub fn put_tail(out: &mut [u8], at: usize, stretched: bool, s: State) -> usize
     requires { ⌜ at + tailRoom ≤ length (now out) ⌝ }
-    ensures { λ r. ⌜ Written (now (out .entry)) at (tailText s) (now (out .exit)) r ⌝ }
+    ensures { λ r. ⌜ Written (now (out .entry)) at (tailText stretched s) (now (out .exit)) r ⌝ }
     ensures { λ r. ⌜ r ≤ at + tailRoom ⌝ }
 {
-    let end = put_state(out, at, s);
+    let six = put_yes(out, at, stretched);
+    let end = put_state(out, six, s);
     put(out, end, b"\n")
 }
 

@@ -9,7 +9,7 @@ use Rattle.bits.specs.F64.{+0}
 use Rattle.segment.specs.declared.Segment.{Segment}
 use Rattle.segment.specs.declared.Kind.the-variants.{Unsupported}
 use Rattle.table.specs.Segments.{emptySegment}
-use Rattle.lines.specs.Text.{decimalIn, decimalText, signedText, fieldText, numberText, refusalText}
+use Rattle.lines.specs.Text.{decimalIn, decimalText, signedText, fieldText, numberText, yesText, refusalText}
 use Rattle.listing_text.specs.Lines.{markText, headText, spanText, segmentText}
 use Rattle.listing_text.specs.Text.{segmentsFrom, listingText}
 
@@ -39,7 +39,7 @@ pub lines : segmentsFrom (probe ∷ emptySegment ∷ []) 0 2
     ≡ (48 ∷ 32 ∷ 45 ∷ 49 ∷ 32 ∷ 49 ∷ 48 ∷ 32 ∷ 49 ∷ 32 ∷ 50 ∷ [])
     ++ (zeros ++ (zeros ++ (32 ∷ 55 ∷ 32 ∷ 56 ∷ 32 ∷ 121 ∷ 101 ∷ 115 ∷ 10
     ∷ 49 ∷ 32 ∷ 48 ∷ 32 ∷ 48 ∷ 32 ∷ 48 ∷ 32 ∷ 48 ∷ (zeros ++ (zeros ++ (32 ∷ 48 ∷ 32 ∷ 48 ∷ 32 ∷ 110 ∷ 111 ∷ 10 ∷ []))))))
-unfolding segmentsFrom segmentText headText spanText markText decimalIn decimalText signedText fieldText numberText toBits ofBits
+unfolding segmentsFrom segmentText headText spanText markText decimalIn decimalText signedText fieldText numberText yesText toBits ofBits
 lines = refl
 
 -- The empty kernel: `refused 1 0`.

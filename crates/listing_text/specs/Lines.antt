@@ -1,14 +1,13 @@
 -- The lines of the listing, as ASCII codes.
 use Prim.Native.Nat.{ℕ}
-use mathlib.Core.Bool.{Bool, true, false}
+use mathlib.Core.Bool.{Bool}
 use mathlib.Core.List.{List, [], _∷_, _++_}
-use Rattle.lines.specs.Text.{space, newline, decimalText, fieldText, numberText}
+use Rattle.lines.specs.Text.{space, newline, decimalText, fieldText, numberText, yesText}
 use Rattle.segment.specs.declared.Segment.{Segment}
 
 -- `yes` or `no` after a space, and the newline.
 unfoldable pub markText : Bool → List ℕ
-markText true = space ∷ 121 ∷ 101 ∷ 115 ∷ newline ∷ []
-markText false = space ∷ 110 ∷ 111 ∷ newline ∷ []
+markText b = yesText b ++ (newline ∷ [])
 
 -- Target, center, frame, type.
 unfoldable pub headText : Segment → List ℕ

@@ -48,11 +48,8 @@ fn put_mark(out: &mut [u8], at: usize, marked: bool) -> usize
     ensures { λ r. ⌜ Written (now (out .entry)) at (markText marked) (now (out .exit)) r ⌝ }
     ensures { λ r. ⌜ r ≤ at + markRoom ⌝ }
 {
-    if marked {
-        lines::put(out, at, b" yes\n")
-    } else {
-        lines::put(out, at, b" no\n")
-    }
+    let end = lines::put_yes(out, at, marked);
+    lines::put(out, end, b"\n")
 }
 
 // Puts the first part of a segment's line: target, center, frame, type.

@@ -7,9 +7,9 @@ use Rattle.pck.specs.declared.Outcome.{Outcome}
 use Rattle.pck.specs.declared.Outcome.the-variants.{Turned, Refused}
 use Rattle.pck.specs.declared.Oriented.{Oriented}
 
--- The question's number, the reference frame, the six numbers.
+-- The question's number, the reference frame, whether a record was stretched, the six numbers.
 unfoldable pub turnedText : ℕ → Oriented → List ℕ
-turnedText i a = decimalText i ++ (fieldText (a .frame) ++ tailText (a .angles))
+turnedText i a = decimalText i ++ (fieldText (a .frame) ++ tailText (a .stretched) (a .angles))
 
 -- By the outcome: a refused question has its number and the line of its refusal.
 abbrev pub outcomeText : ℕ → Oriented → Outcome → List ℕ
@@ -20,6 +20,6 @@ outcomeText i a (Refused r) = numberedRefusalText i r
 unfoldable pub orientedText : ℕ → Oriented → List ℕ
 orientedText i a = outcomeText i a (a .outcome)
 
--- So many bytes has a line at most: the number, the frame, six numbers and the newline.
+-- So many bytes has a line at most: the number, the frame, a word, six numbers and the newline.
 abbrev pub orientedRoom : ℕ
 orientedRoom = decimalRoom + fieldRoom + tailRoom

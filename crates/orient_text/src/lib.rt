@@ -75,7 +75,7 @@ fn put_turned(out: &mut [u8], at: usize, i: usize, a: Oriented) -> usize
     let frame = lines::put_decimal(out, at, i as u64);
     let tail = lines::put_field(out, frame, a.frame);
     let angles = a.angles;
-    lines::put_tail(out, tail, angles)
+    lines::put_tail(out, tail, a.stretched, angles)
 }
 
 // Puts the line of orientation i.

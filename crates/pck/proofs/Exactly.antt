@@ -14,11 +14,11 @@ use Rattle.refusal.specs.declared.Refusal.{Refusal}
 use Rattle.refusal.specs.declared.Refusal.the-variants.{TableUnfit, EpochNan, NoCoverage, NotFinite}
 use Rattle.refusal.specs.Numbers.{numberOf}
 use Rattle.refusal.specs.Order.{First, given}
-use Rattle.frame.specs.declared.State.{State}
 use Rattle.frame.specs.State.{finiteState}
 use Rattle.frame.proofs.Finite.{infinite-where, infinite-only}
 use Rattle.daf.specs.declared.Family.the-variants.{Pck}
 use Rattle.segment.specs.declared.Segment.{Segment}
+use Rattle.segment.specs.declared.Valued.{Valued}
 use Rattle.segment.specs.declared.Evaluated.{Evaluated}
 use Rattle.segment.specs.declared.Evaluated.the-variants as evaluation
 use Rattle.segment.specs.Evaluating.{cases, evaluated}
@@ -49,13 +49,13 @@ one-refusal r s h = let e : _≡_ {A = Outcome} (Refused r) (Refused s) = sym (o
 
 -- why what a segment was evaluated to is refused: by itself, or by 15
 pub settled-why : (s : Segment) (e : Evaluated) (r : Refusal) → settled s e .outcome ≡ Refused r
-    → (e ≡ evaluation.Refused r) ⊎ ((x : State) × (e ≡ evaluation.State x) × (finiteState x ≡ false) × (NotFinite ≡ r))
+    → (e ≡ evaluation.Refused r) ⊎ ((x : Valued) × (e ≡ evaluation.State x) × (finiteState (x .state) ≡ false) × (NotFinite ≡ r))
 unfolding settled
 settled-why s (evaluation.Refused x) r h = inl (ap evaluation.Refused (one-refusal x r h))
-settled-why s (evaluation.State x) r h = go (finiteState x) refl h
+settled-why s (evaluation.State x) r h = go (finiteState (x .state)) refl h
   where
-    go : (b : Bool) → finiteState x ≡ b → cond b (orientedOf Turned (s .frame) x) (refusedOriented NotFinite) .outcome ≡ Refused r
-        → (_≡_ {A = Evaluated} (evaluation.State x) (evaluation.Refused r)) ⊎ ((y : State) × (evaluation.State x ≡ evaluation.State y) × (finiteState y ≡ false) × (NotFinite ≡ r))
+    go : (b : Bool) → finiteState (x .state) ≡ b → cond b (orientedOf Turned (s .frame) (x .state) (x .stretched)) (refusedOriented NotFinite) .outcome ≡ Refused r
+        → (_≡_ {A = Evaluated} (evaluation.State x) (evaluation.Refused r)) ⊎ ((y : Valued) × (evaluation.State x ≡ evaluation.State y) × (finiteState (y .state) ≡ false) × (NotFinite ≡ r))
     go true f e = clash (cc)
     go false f e = inr (x, refl, f, one-refusal NotFinite r e)
 
@@ -96,7 +96,7 @@ module _ (limit : ℕ) (k : List ℕ) (segs : List Segment) (n : ℕ) (q : Quest
       oriented-by limit k segs n q Nothing (none-chosen (hits q) segs n (w .none)) (w .past .fits) (w .past .number)
       ∙ ap refusedOriented (ap NoCoverage (w .body) ∙ e)
   refused-whole r (own w) = answer-choice (w .number) (w .answers) ∙ settled-refused _ _ r (w .given)
-  refused-whole r (infinite w e) = answer-choice (w .number) (w .answers) ∙ settled-state _ _ (w .angles) false (w .given) (infinite-where (w .angles) (w .infinite)) ∙ ap refusedOriented e
+  refused-whole r (infinite w e) = answer-choice (w .number) (w .answers) ∙ settled-state _ _ (w .value) false (w .given) (infinite-where (w .value .state) (w .infinite)) ∙ ap refusedOriented e
 
   given-why : (r : Refusal) → Why r → RefusedBy limit k segs n q r
   given-why r w = ap (λ (a : Oriented). a .outcome) (refused-whole r w) ∙ outcome-refused r
@@ -108,7 +108,7 @@ module _ (limit : ℕ) (k : List ℕ) (segs : List Segment) (n : ℕ) (q : Quest
       let l = chosen-last (hits q) segs n i e in
       let a : Answers limit segs n q i = record { past = p; below = l .below; covers = l .passes; last = l .none } in
       ⊎-elim (λ x. own (record { number = i; answers = a; given = x }))
-      (λ x. infinite (record { number = i; answers = a; angles = x .0; given = x .1; infinite = infinite-only (x .0) (x .2) }) (x .3))
+      (λ x. infinite (record { number = i; answers = a; value = x .0; given = x .1; infinite = infinite-only (x .0 .state) (x .2) }) (x .3))
       (settled-why (seg segs i) (valueOf limit k segs n q i) r h)
 
   why : (r : Refusal) → RefusedBy limit k segs n q r → Why r

@@ -38,7 +38,7 @@ module _ (limit : ℕ) (k : List ℕ) (segs : List Segment) (n i : ℕ) (et : Fl
   refused-whole r (none w e) = alone-none limit k n i et _ (w .fits) (w .number) (w .past) ∙ ap refusedOriented e
   refused-whole r (own w) = alone-some limit k n i et _ (w .past .fits) (w .past .number) (w .past .below) ∙ settled-refused _ _ r (w .given)
   refused-whole r (infinite w e) =
-      alone-some limit k n i et _ (w .past .fits) (w .past .number) (w .past .below) ∙ settled-state _ _ (w .angles) false (w .given) (w .not-finite) ∙ ap refusedOriented e
+      alone-some limit k n i et _ (w .past .fits) (w .past .number) (w .past .below) ∙ settled-state _ _ (w .value) false (w .given) (w .not-finite) ∙ ap refusedOriented e
 
   given-why : (r : Refusal) → Why r → AloneBy limit k segs n i et r
   given-why r w = ap (λ (a : Oriented). a .outcome) (refused-whole r w) ∙ outcome-refused r
@@ -55,7 +55,7 @@ module _ (limit : ℕ) (k : List ℕ) (segs : List Segment) (n i : ℕ) (et : Fl
               | yes b ↦
                   let p : PastAlone limit n i et = record { fits = le; number = d; below = b } in
                   ⊎-elim (λ x. own (record { past = p; given = x }))
-                  (λ x. infinite (record { past = p; angles = x .0; given = x .1; not-finite = x .2 }) (x .3))
+                  (λ x. infinite (record { past = p; value = x .0; given = x .1; not-finite = x .2 }) (x .3))
                   (settled-why (seg segs i) (aloneValue limit k segs n i et) r (from (alone-some limit k n i et _ le d b)))
               | no b ↦ let p : n ≤ i = omega arith in none (record { fits = le; number = d; past = p }) (one-refusal NoSegment r (from (alone-none limit k n i et _ le d p)))
             ])

@@ -8,3 +8,5 @@ pub mod OwnBytes
 pub mod TwoAnswers
 pub mod Ways
 pub mod Told
+pub mod Before
+pub mod Words

@@ -18,4 +18,4 @@ outcome-of Turned = refl
 outcome-of (Refused r) = ap (λ (b : Bool). cond b Turned (Refused (refusalOf (refusedBy r)))) (not-0 r) ∙ ap Refused (refusal-of r)
 
 pub one-orientation : (o o' : Oriented) → orientedTold o ≡ orientedTold o' → o ≡ o'
-one-orientation = told-back orientedTold (λ (t : Told). orientedOf (outcomeOf (t .numbered)) (t .frame) (t .six)) (λ o. ap (λ (x : Outcome). orientedOf x (o .frame) (o .angles)) (outcome-of (o .outcome)))
+one-orientation = told-back orientedTold (λ (t : Told). orientedOf (outcomeOf (t .numbered)) (t .frame) (t .six) (t .stretched)) (λ o. ap (λ (x : Outcome). orientedOf x (o .frame) (o .angles) (o .stretched)) (outcome-of (o .outcome)))

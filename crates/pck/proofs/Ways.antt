@@ -8,9 +8,9 @@ use borrow.Author.Tests.{lt-ltb, le-ltb}
 use Rattle.refusal.specs.declared.Refusal.{Refusal}
 use Rattle.refusal.specs.declared.Refusal.the-variants.{TableUnfit, EpochNan, NotFinite}
 use Rattle.refusal.specs.Order.{case, firstOf}
-use Rattle.frame.specs.declared.State.{State}
 use Rattle.frame.specs.State.{finiteState}
 use Rattle.segment.specs.declared.Segment.{Segment}
+use Rattle.segment.specs.declared.Valued.{Valued}
 use Rattle.segment.specs.declared.Evaluated.{Evaluated}
 use Rattle.segment.specs.declared.Evaluated.the-variants as evaluation
 use Rattle.table.specs.declared.Choice.{Choice}
@@ -26,9 +26,9 @@ module _ (s : Segment) (e : Evaluated) where
   settled-refused r h = ap (settled s) h
 
   -- it gave six numbers, finite or not
-  pub settled-state : (x : State) (b : Bool) → e ≡ evaluation.State x → finiteState x ≡ b → settled s e ≡ cond b (orientedOf Turned (s .frame) x) (refusedOriented NotFinite)
+  pub settled-state : (x : Valued) (b : Bool) → e ≡ evaluation.State x → finiteState (x .state) ≡ b → settled s e ≡ cond b (orientedOf Turned (s .frame) (x .state) (x .stretched)) (refusedOriented NotFinite)
   unfolding settled
-  settled-state x b h f = ap (settled s) h ∙ ap (λ (t : Bool). cond t (orientedOf Turned (s .frame) x) (refusedOriented NotFinite)) f
+  settled-state x b h f = ap (settled s) h ∙ ap (λ (t : Bool). cond t (orientedOf Turned (s .frame) (x .state) (x .stretched)) (refusedOriented NotFinite)) f
 
 module _ (limit : ℕ) (k : List ℕ) (segs : List Segment) (n : ℕ) (q : Question) where
   -- what the two tests give

@@ -10,10 +10,10 @@ use lib.Ieee.{Float, isNan}
 use Rattle.refusal.specs.declared.Refusal.{Refusal}
 use Rattle.refusal.specs.declared.Refusal.the-variants.{TableUnfit, EpochNan, NoSegment}
 use Rattle.refusal.specs.Order.{case, firstOf}
-use Rattle.frame.specs.declared.State.{State}
 use Rattle.frame.specs.State.{finiteState}
 use Rattle.daf.specs.declared.Family.the-variants.{Pck}
 use Rattle.segment.specs.declared.Segment.{Segment}
+use Rattle.segment.specs.declared.Valued.{Valued}
 use Rattle.segment.specs.declared.Evaluated.{Evaluated}
 use Rattle.segment.specs.declared.Evaluated.the-variants as evaluation
 use Rattle.segment.specs.Evaluating.{evaluated}
@@ -71,6 +71,6 @@ module _ (limit : ℕ) (k : List ℕ) (segs : List Segment) (n i : ℕ) (et : Fl
   -- 15: it gives six numbers, and one of them is not finite.
   pub record Alone15 : Type 0 where
     pub past : PastAlone limit n i et
-    pub angles : State
-    pub given : aloneValue ≡ evaluation.State angles
-    pub not-finite : finiteState angles ≡ false
+    pub value : Valued
+    pub given : aloneValue ≡ evaluation.State value
+    pub not-finite : finiteState (value .state) ≡ false

@@ -5,3 +5,4 @@ pub mod Steps
 pub mod Orienting
 pub mod When
 pub mod Told
+pub mod Before

@@ -1,7 +1,7 @@
 -- A question to a PCK: RULES, "Questions to a PCK". Assumes nothing: these are definitions.
 -- Everything is over the kernel's bytes, the list of segments, their count and the table's limit.
 use Prim.Native.Nat.{ℕ}
-use mathlib.Core.Bool.{Bool, cond, _&&_}
+use mathlib.Core.Bool.{Bool, false, cond, _&&_}
 use mathlib.Core.List.{List, [], _∷_}
 use lib.Dec.{ltb}
 use lib.IntN.{ℤ, pos}
@@ -28,17 +28,17 @@ use Rattle.pck.specs.declared.Oriented.{Oriented}
 
 -- ---- what an answer holds
 
--- Every answer is made here: how it ended, the reference frame, and the three angles with their rates.
-abbrev pub orientedOf : Outcome → ℤ → State → Oriented
-orientedOf outcome frame angles = record { outcome = outcome; frame = frame; angles = angles }
+-- Every answer is made here: how it ended, the reference frame, the three angles with their rates, and whether a record was stretched.
+abbrev pub orientedOf : Outcome → ℤ → State → Bool → Oriented
+orientedOf outcome frame angles stretched = record { outcome = outcome; frame = frame; angles = angles; stretched = stretched }
 
--- A refusal: its number and detail, no frame and six zeros.
+-- A refusal: its number and detail, no frame and six zeros, and no record was stretched.
 unfoldable pub refusedOriented : Refusal → Oriented
-refusedOriented r = orientedOf (Refused r) (pos 0) zeroState
+refusedOriented r = orientedOf (Refused r) (pos 0) zeroState false
 
--- The answer of what a segment was evaluated to: its refusal, then 15, then its reference frame with the six numbers.
+-- The answer of what a segment was evaluated to: its refusal, then 15, then its reference frame with the six numbers and its word.
 unfoldable pub settled : Segment → Evaluated → Oriented
-settled s (evaluation.State angles) = cond (finiteState angles) (orientedOf Turned (s .frame) angles) (refusedOriented NotFinite)
+settled s (evaluation.State v) = cond (finiteState (v .state)) (orientedOf Turned (s .frame) (v .state) (v .stretched)) (refusedOriented NotFinite)
 settled s (evaluation.Refused r) = refusedOriented r
 
 -- ---- which segment answers

@@ -1,4 +1,5 @@
 -- An orientation, in the numbers of RULES, "Refusals". Assumes nothing: these are definitions.
+use mathlib.Core.Bool.{Bool}
 use lib.IntN.{ℤ}
 use Rattle.frame.specs.declared.State.{State}
 use Rattle.refusal.specs.Told.{Numbered, refusedBy, answered}
@@ -11,11 +12,12 @@ abbrev pub outcomeTold : Outcome → Numbered
 outcomeTold Turned = answered
 outcomeTold (Refused r) = refusedBy r
 
--- Number and detail, the reference frame, and the three angles with their rates.
+-- Number and detail, the reference frame, the three angles with their rates, and whether a record was stretched.
 pub record Told : Type 0 where
   pub numbered : Numbered
   pub frame : ℤ
   pub six : State
+  pub stretched : Bool
 
 abbrev pub orientedTold : Oriented → Told
-orientedTold o = record { numbered = outcomeTold (o .outcome); frame = o .frame; six = o .angles }
+orientedTold o = record { numbered = outcomeTold (o .outcome); frame = o .frame; six = o .angles; stretched = o .stretched }

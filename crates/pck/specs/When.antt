@@ -8,10 +8,10 @@ use lib.Ieee.{isNan}
 use lib.IntN.{ℤ}
 use Rattle.refusal.specs.declared.Refusal.{Refusal}
 use Rattle.refusal.specs.declared.Refusal.the-variants.{TableUnfit}
-use Rattle.frame.specs.declared.State.{State}
 use Rattle.frame.specs.Finite.{Infinite}
 use Rattle.daf.specs.declared.Family.the-variants.{Pck}
 use Rattle.segment.specs.declared.Segment.{Segment}
+use Rattle.segment.specs.declared.Valued.{Valued}
 use Rattle.segment.specs.declared.Evaluated.{Evaluated}
 use Rattle.segment.specs.declared.Evaluated.the-variants as evaluation
 use Rattle.segment.specs.Evaluating.{evaluated}
@@ -66,6 +66,6 @@ module _ (limit : ℕ) (k : List ℕ) (segs : List Segment) (n : ℕ) (q : Quest
   pub record When15 : Type 0 where
     pub number : ℕ
     pub answers : Answers limit segs n q number
-    pub angles : State
-    pub given : valueOf number ≡ evaluation.State angles
-    pub infinite : Infinite angles
+    pub value : Valued
+    pub given : valueOf number ≡ evaluation.State value
+    pub infinite : Infinite (value .state)

@@ -28,11 +28,13 @@ pub enum Outcome {
     Refused(Refusal),
 }
 
-// An orientation: the segment's reference frame, the three angles and their rates; frame 0 and six zeros where it is a refusal.
+// An orientation: the segment's reference frame, the three angles and their rates, and whether a record was stretched; frame 0 and six zeros where it is a
+// refusal.
 pub struct Oriented {
     pub outcome: Outcome,
     pub frame: i32,
     pub angles: State,
+    pub stretched: bool,
 }
 
 impl Question {
@@ -60,13 +62,14 @@ impl Question {
 
 impl Oriented {
     // Every answer is made here.
-    fn new(outcome: Outcome, frame: i32, angles: State) -> Oriented
-        ensures { λ r. ⌜ r ≡ orientedOf outcome frame angles ⌝ }
+    fn new(outcome: Outcome, frame: i32, angles: State, stretched: bool) -> Oriented
+        ensures { λ r. ⌜ r ≡ orientedOf outcome frame angles stretched ⌝ }
     {
         Oriented {
             outcome: outcome,
             frame: frame,
             angles: angles,
+            stretched: stretched,
         }
     }
 
@@ -74,18 +77,18 @@ impl Oriented {
     fn refused(refusal: Refusal) -> Oriented
         ensures { λ r. ⌜ r ≡ refusedOriented refusal ⌝ }
     {
-        Oriented::new(Outcome::Refused(refusal), 0, State::zero())
+        Oriented::new(Outcome::Refused(refusal), 0, State::zero(), false)
     }
 
-    // The answer of what a segment was evaluated to: its refusal, then 15, then its reference frame with the six numbers.
+    // The answer of what a segment was evaluated to: its refusal, then 15, then its reference frame with the six numbers and its word.
     fn settled(s: Segment, e: Evaluated) -> Oriented
         ensures { λ r. ⌜ r ≡ settled s e ⌝ }
     {
         match e {
             Evaluated::Refused(refusal) => Oriented::refused(refusal),
-            Evaluated::State(angles) => {
-                if angles.is_finite() {
-                    Oriented::new(Outcome::Turned, s.frame, angles)
+            Evaluated::State(value) => {
+                if value.state.is_finite() {
+                    Oriented::new(Outcome::Turned, s.frame, value.state, value.stretched)
                 } else {
                     Oriented::refused(Refusal::NotFinite)
                 }

@@ -84,7 +84,7 @@ fn question(s: &[u8], at: usize, e: usize)
     let init = bits::double_at(s, at + 8);
     let intlen = bits::double_at(s, at + 16);
     let r = cheby::record_at(init, intlen, et, count);
-    answer(s, kind, behind(at + 48, size(kind, n), r), n, et);
+    answer(s, kind, behind(at + 48, size(kind, n), r.number), n, et);
 }
 
 // The block at byte `at`: type, coefficients and records less one in a byte each, INIT and INTLEN from byte 8, three epochs from byte 24, records from byte 48 on.

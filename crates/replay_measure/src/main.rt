@@ -305,7 +305,7 @@ fn unasked(q: spk::Question, kept: Memory) -> Asked {
     } else {
         Way::Same
     };
-    let given = Given::of(state, frame::J2000);
+    let given = Given::of(state, frame::J2000, false);
     Asked {
         answer: Answer {
             way: way,

@@ -18,7 +18,7 @@ use Rattle.segment.specs.declared.Kind.{Kind}
 use Rattle.segment.specs.declared.Kind.the-variants.{Unsupported, Type2, Type3, Type9, Type13}
 use Rattle.segment.specs.declared.Trailer.{Trailer}
 use Rattle.segment.specs.declared.Segment.{Segment}
-use Rattle.segment.proofs.Valued.{record-below, record-ends}
+use Rattle.segment.proofs.AfterTests.{record-below, record-ends}
 use Rattle.segment.proofs.Fit.{records-fit, states-fit, own-kind, passed-tests}
 
 -- The record for et starts at byte p, at the segment's first double or after it, and ends before the trailer of four doubles.

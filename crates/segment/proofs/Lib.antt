@@ -7,7 +7,7 @@ pub mod Forms
 pub mod Finding
 pub mod Judging
 pub mod TwoAnswers
-pub mod Valued
+pub mod AfterTests
 pub mod Same
 pub mod Fit
 pub mod Refusals
@@ -16,3 +16,4 @@ pub mod Opened
 pub mod Plain
 pub mod OwnBytes
 pub mod Told
+pub mod Before

@@ -11,24 +11,28 @@ use lib.Ieee.{Float, eq}
 use borrow.Author.Tests.{ltb-false, le-ltb}
 use Rattle.bits.specs.F64.{+0}
 use Rattle.bits.specs.Bytes.{doubleAt}
+use Rattle.bits.specs.Record.{isStretched}
 use Rattle.bits.proofs.Tests.{by-test}
+use Rattle.frame.specs.declared.State.{State}
 use Rattle.daf.specs.Addresses.{byteOf, doubleOfAddress, wholeDoubles}
 use Rattle.daf.specs.declared.Family.{Family}
 use Rattle.cheby.specs.Cheby.{recordFor}
 use Rattle.cheby.proofs.Own.{type2-own, type3-own}
-use Rattle.interp.proofs.Own.{alike-whole, type9-own, type13-own}
+use Rattle.interp.proofs.Own.{alike-whole, reach-own, type9-own, type13-own}
 use Rattle.segment.specs.Kinds.{formOf, handled, trailerAt, kindOf}
 use Rattle.segment.specs.Malformed.{limitNan, misplaced, lengthOf, trailerSize, coefficients, malformed}
-use Rattle.segment.specs.Evaluating.{unsupported, unfit, recordByte, zeroRadius, stateIn, stateAt, evaluated}
+use Rattle.segment.specs.Evaluating.{unsupported, unfit, recordByte, zeroRadius, stateIn, stateAt, reachBy, valueAt, evaluated}
 use Rattle.segment.specs.Steps.{Sound}
 use Rattle.segment.specs.declared.Form.{Form}
 use Rattle.segment.specs.declared.Form.the-variants.{Other, Two, Three, Nine, Thirteen}
 use Rattle.segment.specs.declared.Kind.{Kind}
 use Rattle.segment.specs.declared.Kind.the-variants.{Unsupported, Type2, Type3, Type9, Type13}
 use Rattle.segment.specs.declared.Segment.{Segment}
+use Rattle.segment.specs.declared.Valued.{Valued}
 use Rattle.segment.proofs.Finding.{not-handled}
 use Rattle.segment.proofs.Placed.{placed}
 use Rattle.segment.proofs.Fit.{fitting}
+use Rattle.segment.proofs.AfterTests.{valued-eq}
 use Rattle.segment.proofs.Inside.{RecordInside, Inside, inside}
 
 -- Two kernels hold the doubles of addresses a to e, and the same ones.
@@ -74,6 +78,10 @@ module _ (f : Family) (k k′ : List ℕ) (s : Segment) (g : Agrees k k′ (natA
 
 -- ---- the record and the states
 
+-- the word of types 2 and 3 is no double of the kernel's
+with-word : (b : Bool) {x y : State} → x ≡ y → _≡_ {A = Valued} (record { state = x; stretched = b }) (record { state = y; stretched = b })
+with-word b e = valued-eq _ _ e refl
+
 module _ (k k′ : List ℕ) (a e : ℕ) (from : 1 ≤ a) (g : Agrees k k′ a e) where
   -- a double that starts at a whole number of doubles after the first
   at-double : (p j : ℕ) → p ≡ byteOf a + 8 * j → a + j ≤ e → doubleAt k p ≡ doubleAt k′ p
@@ -90,23 +98,23 @@ module _ (k k′ : List ℕ) (a e : ℕ) (from : 1 ≤ a) (g : Agrees k k′ a e
   states-own n h j l = at-double _ j refl (omega arith)
 
   value-own : (kind : Kind) (et : Float) → Sound k a kind → Inside a e kind et
-      → (zeroRadius k a kind et ≡ zeroRadius k′ a kind et) × (stateAt k a kind et ≡ stateAt k′ a kind et)
-  unfolding zeroRadius stateAt
+      → (zeroRadius k a kind et ≡ zeroRadius k′ a kind et) × (valueAt k a kind et ≡ valueAt k′ a kind et)
+  unfolding zeroRadius stateAt reachBy
   value-own Unsupported et s h = absurd s
   value-own (Type2 init intlen rsize n) et s h =
       let size = s .size in
       let r = recordFor init intlen et n in (
         ap (λ (x : Float). eq x +0) (in-record r rsize h 1 (omega arith)),
-        ap stateIn (type2-own k k′ (recordByte a init intlen rsize n et) (recordByte a init intlen rsize n et) (coefficients 3 rsize) et (λ j l. in-record r rsize h j (omega arith))),
+        with-word _ (ap stateIn (type2-own k k′ (recordByte a init intlen rsize n et) (recordByte a init intlen rsize n et) (coefficients 3 rsize) et (λ j l. in-record r rsize h j (omega arith)))),
       )
   value-own (Type3 init intlen rsize n) et s h =
       let size = s .size in
       let r = recordFor init intlen et n in
-      (refl, type3-own k k′ (recordByte a init intlen rsize n et) (recordByte a init intlen rsize n et) (coefficients 6 rsize) et (λ j l. in-record r rsize h j (omega arith)))
-  value-own (Type9 d n) et s h = (refl, type9-own (alike-whole k k′ (byteOf a) n d et (states-own n h)))
-  value-own (Type13 d n) et s h = (refl, type13-own (alike-whole k k′ (byteOf a) n d et (states-own n h)) (s .some))
+      (refl, with-word _ (type3-own k k′ (recordByte a init intlen rsize n et) (recordByte a init intlen rsize n et) (coefficients 6 rsize) et (λ j l. in-record r rsize h j (omega arith))))
+  value-own (Type9 d n) et s h = let same = alike-whole k k′ (byteOf a) n d et (states-own n h) in (refl, valued-eq _ _ (type9-own same) (ap isStretched (reach-own same (s .some))))
+  value-own (Type13 d n) et s h = let same = alike-whole k k′ (byteOf a) n d et (states-own n h) in (refl, valued-eq _ _ (type13-own same (s .some)) (ap isStretched (reach-own same (s .some))))
 
--- **own-bytes**, for one segment: two kernels that hold the segment's doubles, and the same ones, give the same, refusal or state.
+-- **own-bytes**, for one segment: two kernels that hold the segment's doubles, and the same ones, give the same: refusal, or state with its word.
 pub own-bytes : (f : Family) (k k′ : List ℕ) (s : Segment) (i : ℕ) (et : Float) → Agrees k k′ (natAbs (s .start)) (natAbs (s .end))
     → evaluated f k s i et ≡ evaluated f k′ s i et
 unfolding evaluated

@@ -12,19 +12,19 @@ use Rattle.refusal.specs.declared.Refusal.{Refusal}
 use Rattle.refusal.specs.declared.Refusal.the-variants.{Unsupported as TypeUnsupported, TableUnfit, ZeroRadius, EmptyWindow}
 use Rattle.refusal.specs.Numbers.{numberOf}
 use Rattle.refusal.specs.Order.{Case, First, None, given}
-use Rattle.refusal.proofs.Exactly.{given-where, given-only, given-some, answer-where, answer-only}
-use Rattle.frame.specs.declared.State.{State}
+use Rattle.refusal.proofs.Exactly.{given-where, given-only, given-some, answer-where, answer-only, answered}
 use Rattle.daf.specs.declared.Family.{Family}
 use Rattle.daf.specs.declared.Summary.{Summary}
 use Rattle.interp.specs.Window.{windowSize}
 use Rattle.interp.proofs.Window.{size-some}
 use Rattle.segment.specs.Malformed.{malformed, segmentOf, judged}
-use Rattle.segment.specs.Evaluating.{unsupported, unfit, zeroRadius, emptyWindow, stateAt, cases, evaluated}
+use Rattle.segment.specs.Evaluating.{unsupported, unfit, zeroRadius, emptyWindow, valueAt, cases, evaluated}
 use Rattle.segment.specs.Steps.{Sound}
 use Rattle.segment.specs.declared.Kind.{Kind}
 use Rattle.segment.specs.declared.Kind.the-variants.{Unsupported, Type2, Type3, Type9, Type13}
 use Rattle.segment.specs.declared.Segment.{Segment}
 use Rattle.segment.specs.declared.Judged.the-variants.{Accepted, Malformed}
+use Rattle.segment.specs.declared.Valued.{Valued}
 use Rattle.segment.specs.declared.Evaluated.the-variants.{State as Answer, Refused}
 use Rattle.segment.proofs.Fit.{fitting}
 
@@ -45,7 +45,10 @@ exactly-9 f k s = (λ e. rw e, λ e. malformed-only (malformed f k (s .first) (s
 one-refusal : (r s : Refusal) → Refused r ≡ Refused s → r ≡ s
 one-refusal r s e = cc
 
-no-refusal : (x : State) (r : Refusal) → Answer x ≡ Refused r → ⊥
+one-value : (x v : Valued) → Answer x ≡ Answer v → v ≡ x
+one-value x v e = cc
+
+no-refusal : (x : Valued) (r : Refusal) → Answer x ≡ Refused r → ⊥
 no-refusal x r e = let z : _≡_ {A = ℕ} 0 1 = cc in omega arith
 
 module _ (f : Family) (k : List ℕ) (s : Segment) (i : ℕ) (et : Float) where
@@ -68,14 +71,19 @@ module _ (f : Family) (k : List ℕ) (s : Segment) (i : ℕ) (et : Float) where
   pub numbered : map (λ (c : Case). numberOf (c .gives)) (cases f k s i et) ≡ 12 ∷ 14 ∷ 13 ∷ 16 ∷ []
   numbered = refl
 
-  -- where no case holds there is the state, and only there
-  pub answered-where : None (cases f k s i et) → evaluated f k s i et ≡ Answer (stateAt k (natAbs (s .start)) (s .kind) et)
+  -- where no case holds there is the state with its word, and only there
+  pub answered-where : None (cases f k s i et) → evaluated f k s i et ≡ Answer (valueAt k (natAbs (s .start)) (s .kind) et)
   unfolding evaluated
   answered-where n = answer-where Refused _ (cases f k s i et) n
 
-  pub answered-only : evaluated f k s i et ≡ Answer (stateAt k (natAbs (s .start)) (s .kind) et) → None (cases f k s i et)
+  pub answered-only : evaluated f k s i et ≡ Answer (valueAt k (natAbs (s .start)) (s .kind) et) → None (cases f k s i et)
   unfolding evaluated
   answered-only e = answer-only Refused _ one-refusal (no-refusal _) (cases f k s i et) e
+
+  -- a value is the definition's: its state, and whether a record was stretched
+  pub answered-value : (v : Valued) → evaluated f k s i et ≡ Answer v → v ≡ valueAt k (natAbs (s .start)) (s .kind) et
+  unfolding evaluated
+  answered-value v e = one-value _ v (answered Refused _ one-refusal (no-refusal _) (cases f k s i et) (Answer v) e (λ r h. no-refusal v r h) .1)
 
   -- the same, a number at a time
   pub exactly-12 : (unsupported (s .kind) ≡ true) ↔ (evaluated f k s i et ≡ Refused (TypeUnsupported (s .«data_type»)))

@@ -7,6 +7,9 @@ use lib.IntN.{natAbs}
 use lib.Ieee.{Float, eq}
 use Rattle.bits.specs.F64.{+0}
 use Rattle.bits.specs.Bytes.{doubleAt}
+use Rattle.bits.specs.Record.{isStretched}
+use Rattle.bits.specs.declared.Reach.{Reach}
+use Rattle.bits.specs.declared.Reach.the-variants.{Inside}
 use Rattle.refusal.specs.declared.Refusal.the-variants.{Unsupported as TypeUnsupported, TableUnfit, ZeroRadius, EmptyWindow}
 use Rattle.refusal.specs.Order.{Case, case, firstOf}
 use Rattle.frame.specs.declared.State.{State}
@@ -15,14 +18,15 @@ use Rattle.daf.specs.Addresses.{byteOf}
 use Rattle.daf.specs.declared.Family.{Family}
 use Rattle.cheby.specs.declared.Cheby.{Cheby}
 use Rattle.cheby.specs.declared.Cheby.the-variants.{Value, NoRadius}
-use Rattle.cheby.specs.Cheby.{recordFor, type2Of, type3Of}
+use Rattle.cheby.specs.Cheby.{recordFor, reachFor, type2Of, type3Of}
 use Rattle.interp.specs.Window.{windowSize}
-use Rattle.interp.specs.Discrete.{type9Of, type13Of}
+use Rattle.interp.specs.Discrete.{reachAt, type9Of, type13Of}
 use Rattle.segment.specs.Kinds.{sameKind}
 use Rattle.segment.specs.Malformed.{coefficients, malformedIn, kindIn}
 use Rattle.segment.specs.declared.Kind.{Kind}
 use Rattle.segment.specs.declared.Kind.the-variants.{Unsupported, Type2, Type3, Type9, Type13}
 use Rattle.segment.specs.declared.Segment.{Segment}
+use Rattle.segment.specs.declared.Valued.{Valued}
 use Rattle.segment.specs.declared.Evaluated.{Evaluated}
 use Rattle.segment.specs.declared.Evaluated.the-variants.{State as Answer, Refused}
 
@@ -76,6 +80,22 @@ stateAt k a (Type3 init intlen rsize n) et = type3Of k (recordByte a init intlen
 stateAt k a (Type9 d n) et = type9Of k (byteOf a) n d et
 stateAt k a (Type13 d n) et = type13Of k (byteOf a) n d et
 
+-- Where et falls beside the records of a segment of this kind whose first address is a, or beside its epochs.
+unfoldable pub reachBy : List ℕ → ℕ → Kind → Float → Reach
+reachBy k a Unsupported et = Inside
+reachBy k a (Type2 init intlen rsize n) et = reachFor init intlen et n
+reachBy k a (Type3 init intlen rsize n) et = reachFor init intlen et n
+reachBy k a (Type9 d n) et = reachAt k (byteOf a) n et
+reachBy k a (Type13 d n) et = reachAt k (byteOf a) n et
+
+-- A record was stretched to et: et is not inside.
+abbrev pub stretchedAt : List ℕ → ℕ → Kind → Float → Bool
+stretchedAt k a kind et = isStretched (reachBy k a kind et)
+
+-- What the segment gives: the state, and whether a record was stretched.
+abbrev pub valueAt : List ℕ → ℕ → Kind → Float → Valued
+valueAt k a kind et = record { state = stateAt k a kind et; stretched = stretchedAt k a kind et }
+
 -- Refusals 13 and 16 of segment number i.
 abbrev pub valueCases : List ℕ → ℕ → Kind → ℕ → Float → List Case
 valueCases k a kind i et = case (zeroRadius k a kind et) (ZeroRadius i) ∷ case (emptyWindow kind) (EmptyWindow i) ∷ []
@@ -87,4 +107,4 @@ cases f k s i et =
 
 -- The evaluation at et of segment number i.
 unfoldable pub evaluated : Family → List ℕ → Segment → ℕ → Float → Evaluated
-evaluated f k s i et = firstOf (cases f k s i et) Refused (Answer (stateAt k (natAbs (s .start)) (s .kind) et))
+evaluated f k s i et = firstOf (cases f k s i et) Refused (Answer (valueAt k (natAbs (s .start)) (s .kind) et))

@@ -5,23 +5,24 @@ use mathlib.Core.Bool.{Bool, true, false}
 use mathlib.Core.List.{List, [], _∷_, _++_, map}
 use lib.IntN.{ℤ, pos, negsuc}
 use lib.ListN.{take}
-use lib.Ieee.{Float, nan, inf, fin, isNan, lt, eq, sub, mul, div, ofInt, ofBits, binary64, toUnsigned}
+use lib.Ieee.{Float, nan, inf, fin, isNan, lt, eq, neg, sub, mul, div, ofInt, ofBits, binary64, toUnsigned}
 use Rattle.bits.specs.F64.{+0, whole}
 use Rattle.bits.specs.Bytes.{le32, le64}
-use Rattle.bits.specs.Record.{floorOf, into, recordOf}
+use Rattle.bits.specs.Record.{floorOf, into, recordOf, beside, reachOf}
 use Rattle.bits.specs.Same.{same}
 use Rattle.refusal.specs.declared.Refusal.the-variants.{Unsupported as TypeUnsupported, TableUnfit, ZeroRadius}
 use Rattle.daf.specs.declared.Family.{Family}
 use Rattle.daf.specs.declared.Family.the-variants.{Spk, Pck}
-use Rattle.cheby.specs.Cheby.{seriesAt, slopeAt, valueOf, rateOf, record2, recordFor}
+use Rattle.cheby.specs.Cheby.{seriesAt, slopeAt, valueOf, rateOf, record2, recordFor, reachFor}
 use Rattle.interp.specs.Window.{windowSize}
 use Rattle.segment.specs.Kinds.{formOf, wholeNumber, trailerAt, kindOf}
 use Rattle.segment.specs.Malformed.{limitNan, misplaced, badSize, badInterval, overruns, badLength, badStates, malformed}
-use Rattle.segment.specs.Evaluating.{unfit, zeroRadius, emptyWindow, stateAt, evaluated}
+use Rattle.segment.specs.Evaluating.{unfit, zeroRadius, emptyWindow, stateAt, reachBy, evaluated}
 use Rattle.segment.specs.declared.Form.the-variants.{Other, Two, Three, Nine, Thirteen}
 use Rattle.segment.specs.declared.Kind.{Kind}
 use Rattle.segment.specs.declared.Kind.the-variants.{Unsupported, Type2, Type3, Type9, Type13}
 use Rattle.segment.specs.declared.Segment.{Segment}
+use Rattle.segment.specs.declared.Valued.{Valued}
 use Rattle.segment.specs.declared.Evaluated.{Evaluated}
 use Rattle.segment.specs.declared.Evaluated.the-variants.{State as Answer, Refused}
 
@@ -116,11 +117,21 @@ at7 f k s = evaluated f k s 4 (whole 7)
 abbrev pub own : Kind
 own = Type2 +0 (whole 10) 5 1
 
--- An SPK's and a PCK's; one coefficient gives itself, and derivative +0.
+-- One coefficient gives itself, and derivative +0.
+abbrev pub gives : Bool → Valued
+gives b = record { state = record { x = whole 1; y = whole 2; z = whole 3; vx = +0; vy = +0; vz = +0 }; stretched = b }
+
+-- An SPK's and a PCK's.
 pub answers : at7 Spk (kernel (double 0x14 0x40)) (segment (pos 2) (pos 1) (pos 9) own) ∷ at7 Pck (kernel (double 0x14 0x40)) (segment (pos 2) (pos 1) (pos 9) own) ∷ []
-    ≡ Answer (record { x = whole 1; y = whole 2; z = whole 3; vx = +0; vy = +0; vz = +0 }) ∷ Answer (record { x = whole 1; y = whole 2; z = whole 3; vx = +0; vy = +0; vz = +0 }) ∷ []
-unfolding evaluated unfit malformed kindOf formOf trailerAt wholeNumber zeroRadius emptyWindow stateAt recordFor recordOf into floorOf record2 valueOf rateOf seriesAt slopeAt same isNan lt eq sub mul div ofInt ofBits toUnsigned le32 le64
+    ≡ Answer (gives false) ∷ Answer (gives false) ∷ []
+unfolding evaluated unfit malformed kindOf formOf trailerAt wholeNumber zeroRadius emptyWindow stateAt reachBy reachFor reachOf beside recordFor recordOf into floorOf record2 valueOf rateOf seriesAt slopeAt same isNan lt eq sub mul div ofInt ofBits toUnsigned le32 le64
 answers = refl
+
+-- The one record of 0 to 10 at -0, at the right end, and before 0: at 10 it is stretched.
+pub words : map (evaluated Spk (kernel (double 0x14 0x40)) (segment (pos 2) (pos 1) (pos 9) own) 4) (neg +0 ∷ whole 10 ∷ neg (whole 1) ∷ [])
+    ≡ Answer (gives false) ∷ Answer (gives true) ∷ Answer (gives true) ∷ []
+unfolding evaluated unfit malformed kindOf formOf trailerAt wholeNumber zeroRadius emptyWindow stateAt reachBy reachFor reachOf beside recordFor recordOf into floorOf record2 valueOf rateOf seriesAt slopeAt same isNan lt eq neg sub mul div ofInt ofBits toUnsigned le32 le64
+words = refl
 
 -- RADIUS +0 and -0.
 pub no-radius : at7 Spk (kernel (double 0 0)) (segment (pos 2) (pos 1) (pos 9) own) ∷ at7 Spk (kernel (double 0 0x80)) (segment (pos 2) (pos 1) (pos 9) own) ∷ [] ≡ Refused (ZeroRadius 4) ∷ Refused (ZeroRadius 4) ∷ []

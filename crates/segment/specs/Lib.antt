@@ -5,3 +5,4 @@ pub mod Evaluating
 pub mod Examples
 pub mod Told
 pub mod Steps
+pub mod Before

@@ -6,22 +6,30 @@ use mathlib.Core.List.{List}
 use lib.IntN.{natAbs}
 use lib.ListN.{length}
 use lib.Ieee.{Float}
+use Rattle.bits.specs.Record.{isStretched}
 use Rattle.refusal.specs.Order.{firstOf}
 use Rattle.daf.specs.Addresses.{byteOf, wholeDoubles}
+use Rattle.cheby.specs.Cheby.{reachFor}
 use Rattle.interp.specs.Window.{windowSize}
 use Rattle.segment.specs.Kinds.{recordsAt}
 use Rattle.segment.specs.Malformed.{limitNan, misplaced, lengthOf, coefficients, badRecords}
 use Rattle.segment.specs.declared.Kind.{Kind}
 use Rattle.segment.specs.declared.Kind.the-variants.{Unsupported, Type2, Type3, Type9, Type13}
 use Rattle.segment.specs.declared.Trailer.{Trailer}
+use Rattle.segment.specs.declared.Place.{Place}
 use Rattle.segment.specs.declared.Segment.{Segment}
 use Rattle.segment.specs.declared.Evaluated.{Evaluated}
 use Rattle.segment.specs.declared.Evaluated.the-variants.{State as Answer, Refused}
-use Rattle.segment.specs.Evaluating.{stateAt, valueCases}
+use Rattle.segment.specs.Evaluating.{recordByte, valueAt, valueCases}
 
 -- After refusals 12 and 14.
 unfoldable pub valued : List ℕ → ℕ → Kind → ℕ → Float → Evaluated
-valued k a kind i et = firstOf (valueCases k a kind i et) Refused (Answer (stateAt k a kind et))
+valued k a kind i et = firstOf (valueCases k a kind i et) Refused (Answer (valueAt k a kind et))
+
+-- Where the record for et starts, in a segment whose first address is a, and whether it is stretched to et.
+abbrev pub placeOf : ℕ → Trailer → Float → Place
+placeOf a t et =
+    record { byte = recordByte a (t .init) (t .intlen) (t .size) (t .count) et; stretched = isStretched (reachFor (t .init) (t .intlen) et (t .count)) }
 
 -- What the tests leave of a trailer of so many series, in a segment whose first address is a: N records lie in the kernel from there on.
 pub record Records (series : ℕ) (k : List ℕ) (a : ℕ) (t : Trailer) : Type 0 where

@@ -8,14 +8,16 @@ ghost use Rattle.bits.specs.F64.{finite};
 ghost use Rattle.daf.specs.Addresses.{byteOf, doubleOfAddress};
 ghost use Rattle.segment.specs.Kinds.{formOf, recordsAt};
 ghost use Rattle.segment.specs.Malformed.{coefficients, badSize};
-ghost use Rattle.segment.specs.Evaluating.{unsupported, unfit, recordByte, evaluated};
-ghost use Rattle.segment.specs.Steps.{valued, Records, States, Sound, Plain};
+ghost use Rattle.segment.specs.Evaluating.{unsupported, unfit, evaluated};
+ghost use Rattle.segment.specs.Steps.{valued, placeOf, Records, States, Sound, Plain};
 ghost use Rattle.segment.specs.declared.Form.the-variants.{Three};
 use super::Evaluated;
 use super::Found;
 use super::Kind;
+use super::Place;
 use super::Segment;
 use super::Trailer;
+use super::Valued;
 use super::kinds::same_kind;
 use super::malformed::bad_interval;
 use super::malformed::coefficients;
@@ -26,7 +28,6 @@ use super::malformed::overruns;
 use super::malformed::start_of;
 use cheby::Cheby;
 use daf::Family;
-use frame::State;
 use refusal::Refusal;
 
 // The kind is unsupported.
@@ -130,22 +131,32 @@ pub fn plainly_fits(kernel: &[u8], series: u32, s: Segment, t: Trailer) -> bool
     has_words(kernel, end, t)
 }
 
-// The byte at which the record for et starts, in a segment whose first address is `start`.
-pub fn record_byte(kernel: &[u8], start: usize, t: Trailer, et: f64) -> usize
+// Where the record for et starts, in a segment whose first address is `start`, and whether it is stretched to et.
+pub fn record_place(kernel: &[u8], start: usize, t: Trailer, et: f64) -> Place
     requires { ⌜ (1 ≤ start) × (1 ≤ t .count) × (byteOf start + 8 * (t .count * t .size) ≤ length (now kernel)) ⌝ }
-    ensures { λ r. ⌜ r ≡ recordByte start (t .init) (t .intlen) (t .size) (t .count) et ⌝ }
+    ensures { λ r. ⌜ r ≡ placeOf start t et ⌝ }
 {
     let r = cheby::record_at(t.init, t.intlen, et, t.count);
-    8 * (start - 1) + 8 * (t.size * r) as usize
+    let reach = r.reach;
+    let stretched = reach.is_stretched();
+    Place {
+        byte: 8 * (start - 1) + 8 * (t.size * r.number) as usize,
+        stretched: stretched,
+    }
 }
 
 // The same of fewer than 2 ^ 31 records.
-pub fn plain_byte(kernel: &[u8], start: usize, t: Trailer, et: f64) -> usize
+pub fn plain_place(kernel: &[u8], start: usize, t: Trailer, et: f64) -> Place
     requires { ⌜ (1 ≤ start) × (1 ≤ t .count) × (byteOf start + 8 * (t .count * t .size) ≤ length (now kernel)) × (t .count < 2 ^ 31) ⌝ }
-    ensures { λ r. ⌜ r ≡ recordByte start (t .init) (t .intlen) (t .size) (t .count) et ⌝ }
+    ensures { λ r. ⌜ r ≡ placeOf start t et ⌝ }
 {
     let r = cheby::record_of_few(t.init, t.intlen, et, t.count);
-    8 * (start - 1) + 8 * (t.size * r) as usize
+    let reach = r.reach;
+    let stretched = reach.is_stretched();
+    Place {
+        byte: 8 * (start - 1) + 8 * (t.size * r.number) as usize,
+        stretched: stretched,
+    }
 }
 
 // A type 2 segment at et.
@@ -153,11 +164,11 @@ pub fn type2(kernel: &[u8], start: usize, t: Trailer, number: u32, et: f64) -> E
     requires { ⌜ Records 3 (now kernel) start t ⌝ }
     ensures { λ r. ⌜ r ≡ valued (now (kernel .entry)) start (Kind.Type2 (t .init) (t .intlen) (t .size) (t .count)) number et ⌝ }
 {
-    let p = record_byte(kernel, start, t, et);
+    let at = record_place(kernel, start, t, et);
     let c = coefficients(3, t.size) as usize;
-    let value = cheby::type2_at(kernel, p, c, et);
+    let value = cheby::type2_at(kernel, at.byte, c, et);
     match value {
-        Cheby::Value(state) => Evaluated::State(state),
+        Cheby::Value(state) => Evaluated::State(Valued::of(state, at.stretched)),
         Cheby::NoRadius => Evaluated::Refused(Refusal::ZeroRadius(number)),
     }
 }
@@ -167,9 +178,9 @@ pub fn type3(kernel: &[u8], start: usize, t: Trailer, number: u32, et: f64) -> E
     requires { ⌜ Records 6 (now kernel) start t ⌝ }
     ensures { λ r. ⌜ r ≡ valued (now (kernel .entry)) start (Kind.Type3 (t .init) (t .intlen) (t .size) (t .count)) number et ⌝ }
 {
-    let p = record_byte(kernel, start, t, et);
+    let at = record_place(kernel, start, t, et);
     let c = coefficients(6, t.size) as usize;
-    Evaluated::State(cheby::type3_at(kernel, p, c, et))
+    Evaluated::State(Valued::of(cheby::type3_at(kernel, at.byte, c, et), at.stretched))
 }
 
 // A type 9 segment at et.
@@ -180,7 +191,10 @@ pub fn type9(kernel: &[u8], start: usize, degree: u64, n: u64, number: u32, et: 
     if interp::window_size(degree, n) == 0 {
         return Evaluated::Refused(Refusal::EmptyWindow(number));
     }
-    Evaluated::State(interp::type9_at(kernel, 8 * (start - 1), n as usize, degree, et))
+    let p = 8 * (start - 1);
+    let reach = interp::reach_at(kernel, p, n as usize, et);
+    let state = interp::type9_at(kernel, p, n as usize, degree, et);
+    Evaluated::State(Valued::of(state, reach.is_stretched()))
 }
 
 // A type 13 segment at et.
@@ -191,7 +205,10 @@ pub fn type13(kernel: &[u8], start: usize, degree: u64, n: u64, number: u32, et:
     if interp::window_size(degree, n) == 0 {
         return Evaluated::Refused(Refusal::EmptyWindow(number));
     }
-    Evaluated::State(interp::type13_at(kernel, 8 * (start - 1), n as usize, degree, et))
+    let p = 8 * (start - 1);
+    let reach = interp::reach_at(kernel, p, n as usize, et);
+    let state = interp::type13_at(kernel, p, n as usize, degree, et);
+    Evaluated::State(Valued::of(state, reach.is_stretched()))
 }
 
 // A segment of a kind that the tests let pass, at et.

@@ -15,8 +15,8 @@ use daf::Family;
 use daf::Summary;
 use evaluating::evaluate_any;
 use evaluating::is_three;
-use evaluating::plain_byte;
 use evaluating::plain_coefficients;
+use evaluating::plain_place;
 use evaluating::plainly_fits;
 use frame::State;
 use malformed::find;
@@ -87,10 +87,34 @@ pub enum Judged {
     Malformed,
 }
 
+// What a segment gives: its state, and whether a record was stretched to the epoch.
+pub struct Valued {
+    pub state: State,
+    pub stretched: bool,
+}
+
+impl Valued {
+    // A state, stretched or not.
+    fn of(state: State, stretched: bool) -> Valued
+        ensures { λ r. ⌜ r ≡ record { state = state; stretched = stretched } ⌝ }
+    {
+        Valued {
+            state: state,
+            stretched: stretched,
+        }
+    }
+}
+
 // What evaluating a segment results in.
 pub enum Evaluated {
-    State(State),
+    State(Valued),
     Refused(Refusal),
+}
+
+// Where the record for an epoch starts, and whether it is stretched to the epoch.
+struct Place {
+    byte: usize,
+    stretched: bool,
 }
 
 // How a type's data are laid out: as those of a handled type, or otherwise.
@@ -178,12 +202,13 @@ pub fn evaluate(kernel: &[u8], family: Family, s: Segment, number: u32, et: f64)
         } = kind {
             let t = Trailer::of_records(init, intlen, rsize, count);
             if plainly_fits(kernel, 3, s, t) {
-                let p = plain_byte(kernel, start_of(s), t, et);
-                if cheby::no_radius(kernel, p) {
+                let at = plain_place(kernel, start_of(s), t, et);
+                if cheby::no_radius(kernel, at.byte) {
                     return Evaluated::Refused(Refusal::ZeroRadius(number));
                 }
                 let c = plain_coefficients(3, t.size);
-                return Evaluated::State(cheby::state2_at(kernel, p, c, et));
+                let state = cheby::state2_at(kernel, at.byte, c, et);
+                return Evaluated::State(Valued::of(state, at.stretched));
             }
         }
         let own = s;
@@ -198,9 +223,10 @@ pub fn evaluate(kernel: &[u8], family: Family, s: Segment, number: u32, et: f64)
     } = kind {
         let t = Trailer::of_records(init, intlen, rsize, count);
         if is_three(family, s) && plainly_fits(kernel, 6, s, t) {
-            let p = plain_byte(kernel, start_of(s), t, et);
+            let at = plain_place(kernel, start_of(s), t, et);
             let c = plain_coefficients(6, t.size);
-            return Evaluated::State(cheby::state3_at(kernel, p, c, et));
+            let state = cheby::state3_at(kernel, at.byte, c, et);
+            return Evaluated::State(Valued::of(state, at.stretched));
         }
     }
     let own = s;

@@ -2,8 +2,9 @@
 -- Assumes nothing.
 use Prim.Native.Nat.{ℕ}
 use mathlib.Core.Path.{_≡_, refl}
-use mathlib.Core.Bool.{false, cond}
+use mathlib.Core.Bool.{true, false, cond}
 use mathlib.Core.List.{List, [], _∷_, map}
+use lib.Dec.{eqb}
 use lib.IntN.{pos}
 use lib.Ieee.{Float, nan, inf, binary64, add, sub, mul, neg, le, isNan, ofInt, ofBits}
 use Rattle.bits.specs.F64.{+0, whole}
@@ -27,7 +28,7 @@ use Rattle.spk.specs.declared.Question.{Question}
 use Rattle.spk.specs.declared.Memory.{Memory}
 use Rattle.spk.specs.declared.Memory.the-variants.{Blank, Kept}
 use Rattle.spk.specs.declared.Way.{Way}
-use Rattle.spk.specs.declared.Way.the-variants.{Same, Forward, Reversed, Chained, Refused}
+use Rattle.spk.specs.declared.Way.the-variants.{Same, Forward, Reversed, Chained}
 use Rattle.spk.specs.declared.Answer.{Answer}
 use Rattle.spk.specs.declared.Asked.{Asked}
 use Rattle.spk.specs.declared.Wanted.the-variants.{AsItStands, In}
@@ -39,8 +40,8 @@ use Rattle.spk.specs.Alone.{aloneWith, aloneAnswer}
 use Rattle.spk.specs.Runs.{Asking, Plain, InFrame, Single, fresh, run}
 
 -- a segment of a pair and two epochs, in a frame, of a type, with a number for its evaluation
-abbrev in-frame : ℕ → ℕ → ℕ → ℕ → ℕ → ℕ → ℕ → Segment
-in-frame f type t c a b x =
+abbrev named : ℕ → ℕ → ℕ → ℕ → ℕ → ℕ → ℕ → ℕ → Segment
+named at f type t c a b x =
     record {
       target = pos t;
       center = pos c;
@@ -50,10 +51,13 @@ in-frame f type t c a b x =
       end = pos 9;
       first = whole a;
       last = whole b;
-      «name_at» = 0;
+      «name_at» = at;
       marked = false;
       kind = kinds.Unsupported;
     }
+
+abbrev in-frame : ℕ → ℕ → ℕ → ℕ → ℕ → ℕ → ℕ → Segment
+in-frame = named 0
 
 abbrev of-type : ℕ → ℕ → ℕ → ℕ → ℕ → ℕ → Segment
 of-type = in-frame 1
@@ -62,11 +66,12 @@ of-type = in-frame 1
 abbrev six : Float → State
 six x = stateOf (λ k. x)
 
--- a segment of type 2 gives six times its number, one of type 3 six times infinity, and one of another type is refused
+-- a segment of type 2 gives six times its number, stretched where its name is at byte 1, one of type 3 six times infinity, and one of another type is
+-- refused
 abbrev evaluate : Segment → ℕ → Float → Evaluated
 evaluate s i et =
-    cond (sameZ (s .«data_type») (pos 2)) (evaluation.State (six (ofInt binary64 (s .start))))
-    (cond (sameZ (s .«data_type») (pos 3)) (evaluation.State (six (inf false))) (evaluation.Refused (Unsupported (s .«data_type»))))
+    cond (sameZ (s .«data_type») (pos 2)) (evaluation.State (record { state = six (ofInt binary64 (s .start)); stretched = eqb (s .«name_at») 1 }))
+    (cond (sameZ (s .«data_type») (pos 3)) (evaluation.State (record { state = six (inf false); stretched = true })) (evaluation.Refused (Unsupported (s .«data_type»))))
 
 -- 0, 1: 399 about 3 from 0 to 10 and from 7 to 12, which overlap; 2: 3 about 0; 3: 301 about 3; 4: 8 about 9, refused; 5: 10 about 0, not finite
 abbrev six-of : List Segment
@@ -83,7 +88,7 @@ ask m q = asked 6 evaluate six-of 6 m q
 
 -- an answer of six times a number, in frame 1
 abbrev in-1 : Way → Float → Answer
-in-1 way x = answerOf way (givenOf (six x) (pos 1))
+in-1 way x = answerOf way (givenOf (six x) (pos 1) false)
 
 abbrev gives : Way → Float → Memory → Asked
 gives way x m = record { answer = in-1 way x; memory = m }
@@ -136,8 +141,8 @@ pub turned-cases :
     ask-in 17 (neg (whole 1)) (pair 5 5 nan) ∷ ask-in 1 (neg (whole 1)) (pair 5 5 nan) ∷ ask-in 13 (neg (whole 1)) (pair 5 5 nan)
     ∷ askedIn 6 evaluate six-of 6 Blank (pair 5 5 nan) AsItStands (matrix 3 (λ i j. neg (whole 1))) .answer
     ∷ ask-in 17 (neg (whole 1)) (pair 8 9 (whole 3)) ∷ ask-in 17 (whole 1) (pair 3 0 (whole 3)) ∷ ask-in 17 (inf false) (pair 3 0 (whole 3)) ∷ []
-    ≡ answerOf Same (givenOf (six (neg +0)) (pos 17)) ∷ in-1 Same +0 ∷ refusedAnswer OtherFrame ∷ in-1 Same +0
-    ∷ refusedAnswer (Unsupported (pos 1)) ∷ answerOf (Forward 2) (givenOf (six (whole 12)) (pos 17)) ∷ refusedAnswer NotFinite ∷ []
+    ≡ answerOf Same (givenOf (six (neg +0)) (pos 17) false) ∷ in-1 Same +0 ∷ refusedAnswer OtherFrame ∷ in-1 Same +0
+    ∷ refusedAnswer (Unsupported (pos 1)) ∷ answerOf (Forward 2) (givenOf (six (whole 12)) (pos 17) false) ∷ refusedAnswer NotFinite ∷ []
 unfolding askedBy forwardIn recall lastIn markedTo others settled sameAnswer refusedAnswer finiteState zeroState le neg isNan ofInt ofBits turnedTo turnedBy add mul
 turned-cases = refl
 
@@ -150,7 +155,7 @@ abbrev frame-in : ℕ → Float → Question → Answer
 frame-in to x q = askedIn 6 evaluate frames-of 6 Blank q (In (pos to)) (matrix 3 (λ i j. x)) .answer
 
 abbrev told : Way → Float → ℕ → Answer
-told way x f = answerOf way (givenOf (six x) (pos f))
+told way x f = answerOf way (givenOf (six x) (pos f) false)
 
 -- a segment in 17 stands in 17 and is turned back to 1; one in 13 stands in 13 alone; by an infinity a state that stands is not touched
 pub own-frame-cases :
@@ -165,7 +170,7 @@ pub chain-frame-cases :
     frame-in 17 (inf false) (pair 7 5 (whole 3)) ∷ frame-in 1 (whole 1) (pair 7 5 (whole 3)) ∷ frame-in 17 (inf false) (pair 9 5 (whole 3)) ∷ frame-in 1 (whole 1) (pair 9 5 (whole 3))
     ∷ asked 6 evaluate frames-of 6 Blank (pair 9 5 (whole 3)) .answer ∷ frame-in 13 (whole 1) (pair 8 7 (whole 3)) ∷ []
     ≡ told Chained (whole 3) 17 ∷ told Chained (whole 9) 1 ∷ refusedAnswer OtherFrame ∷ refusedAnswer OtherFrame
-    ∷ answerOf Chained (record { state = six (whole 7); frame = Mixed }) ∷ refusedAnswer (Unsupported (pos 1)) ∷ []
+    ∷ answerOf Chained (record { state = six (whole 7); frame = Mixed; stretched = false }) ∷ refusedAnswer (Unsupported (pos 1)) ∷ []
 unfolding askedBy forwardIn recall lastIn settled refusedAnswer finiteState zeroState le neg isNan ofInt ofBits turnedTo turnedBy add mul chained differenceOf toZero walkFrom stepFrom stepIn look met plusState minusState sub
 chain-frame-cases = refl
 
@@ -185,3 +190,25 @@ asks =
 pub run-cases : run 6 evaluate six-of 6 Blank asks ≡ map (fresh 6 evaluate six-of 6) asks
 unfolding run askedBy forwardIn recall lastIn markedTo others settled negatedOf negatedState refusedAnswer finiteState zeroState le neg isNan ofInt ofBits aloneWith
 run-cases = refl
+
+-- 0: 5 about 0, stretched; 1: 6 about 0; 2, 3: 7 about 8, stretched, and about 0, so that 2 is passed over; 4: 9 about 0, stretched and not finite
+abbrev stretched-of : List Segment
+stretched-of = named 1 1 2 5 0 0 10 1 ∷ of-type 2 6 0 0 10 2 ∷ named 1 1 2 7 8 0 10 4 ∷ of-type 2 7 0 0 10 8 ∷ of-type 3 9 0 0 10 0 ∷ []
+
+abbrev word-of : Question → Answer
+word-of q = asked 5 evaluate stretched-of 5 Blank q .answer
+
+abbrev yes : Way → Float → ℕ → Answer
+yes way x f = answerOf way (givenOf (six x) (pos f) true)
+
+-- forward, reversed and alone an answer says what its segment says, turned to another frame too; a chain yes where the target's walk or the center's
+-- does, and no where a stretched segment was passed over; same-body zeros and a refusal no
+pub word-cases :
+    word-of (pair 5 0 (whole 3)) ∷ word-of (pair 0 5 (whole 3)) ∷ word-of (pair 6 0 (whole 3)) ∷ aloneAnswer 5 evaluate stretched-of 5 0 (whole 99)
+    ∷ askedIn 5 evaluate stretched-of 5 Blank (pair 5 0 (whole 3)) (In (pos 17)) (matrix 3 (λ i j. whole 1)) .answer ∷ word-of (pair 5 6 (whole 3)) ∷ word-of (pair 6 5 (whole 3))
+    ∷ word-of (pair 7 6 (whole 3)) ∷ word-of (pair 5 5 (whole 3)) ∷ word-of (pair 9 0 (whole 3)) ∷ []
+    ≡ yes (Forward 0) (whole 1) 1 ∷ yes (Reversed 0) (neg (whole 1)) 1 ∷ in-1 (Forward 1) (whole 2) ∷ yes (Forward 0) (whole 1) 1
+    ∷ yes (Forward 0) (whole 3) 17 ∷ yes Chained (neg (whole 1)) 1 ∷ yes Chained (whole 1) 1
+    ∷ in-1 Chained (whole 6) ∷ in-1 Same +0 ∷ refusedAnswer NotFinite ∷ []
+unfolding askedBy forwardIn recall lastIn settled sameAnswer negatedOf negatedState refusedAnswer finiteState zeroState le neg isNan ofInt ofBits turnedTo turnedBy add mul aloneWith chained differenceOf toZero walkFrom stepFrom stepIn look met plusState minusState sub
+word-cases = refl

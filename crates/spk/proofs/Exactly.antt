@@ -17,7 +17,6 @@ use lib.Ieee.{Float, isNan}
 use lib.IntN.{ℤ}
 use borrow.Author.Tests.{eqb-true}
 use Rattle.bits.proofs.Tests.{by-test}
-use Rattle.frame.specs.declared.State.{State}
 use Rattle.frame.specs.declared.Given.{Given}
 use Rattle.frame.specs.State.{finiteState}
 use Rattle.frame.specs.Given.{negatedGiven, minusGiven}
@@ -25,6 +24,7 @@ use Rattle.refusal.specs.declared.Refusal.{Refusal}
 use Rattle.refusal.specs.declared.Refusal.the-variants.{EpochNan, NoCoverage, TableUnfit, NotFinite}
 use Rattle.refusal.specs.Numbers.{numberOf}
 use Rattle.segment.specs.declared.Segment.{Segment}
+use Rattle.segment.specs.declared.Valued.{Valued}
 use Rattle.segment.specs.declared.Evaluated.{Evaluated}
 use Rattle.segment.specs.declared.Evaluated.the-variants as evaluation
 use Rattle.table.specs.declared.Choice.{Choice}
@@ -112,7 +112,7 @@ negated-why (yielded.Refused x) r h = h
 pub given-one : (a b : Given) → _≡_ {A = Yielded} (yielded.Given a) (yielded.Given b) → a ≡ b
 given-one a b h = cc
 
-pub yield-gives : (s : Segment) (e : Evaluated) (g : Given) → yieldOf s e ≡ yielded.Given g → (x : State) × (e ≡ evaluation.State x) × (givenBy s x ≡ g)
+pub yield-gives : (s : Segment) (e : Evaluated) (g : Given) → yieldOf s e ≡ yielded.Given g → (x : Valued) × (e ≡ evaluation.State x) × (givenBy s x ≡ g)
 yield-gives s (evaluation.State x) g h = (x, refl, given-one _ g h)
 yield-gives s (evaluation.Refused r) g h = given-open g r (sym h)
 

@@ -66,7 +66,7 @@ module _ (limit : ℕ) (ev : Evaluation) (segs : List Segment) (n i : ℕ) (et :
           ⊎-elim (λ p. own (record { past = past; given = yield-why (seg segs i) _ r p }))
           (λ p.
           let v = yield-gives (seg segs i) (ev (seg segs i) i et) (p .0) (p .1) in
-          infinite (record { past = past; state = v .0; given = v .1; infinite = infinite-only (v .0) (ap (λ (g : Given). finiteState (g .state)) (v .2) ∙ p .2) }) (p .3))
+          infinite (record { past = past; value = v .0; given = v .1; infinite = infinite-only (v .0 .state) (ap (λ (g : Given). finiteState (g .state)) (v .2) ∙ p .2) }) (p .3))
           (settled-why (ways.Forward i) (yieldOf (seg segs i) (ev (seg segs i) i et)) r refl (ap (λ (a : Answer). a .way) (sym (alone-some limit ev n i et (seg segs i) le d b)) ∙ h))
 
   whole : (r : Refusal) → Why r → aloneAnswer limit ev segs n i et ≡ refusedAnswer r
@@ -76,7 +76,7 @@ module _ (limit : ℕ) (ev : Evaluation) (segs : List Segment) (n i : ℕ) (et :
   whole r (own w) = alone-some limit ev n i et (seg segs i) (w .past .past .fits) (w .past .past .number) (w .past .below) ∙ settled-refused _ _ r (ap (yieldOf (seg segs i)) (w .given))
   whole r (infinite w x) =
       alone-some limit ev n i et (seg segs i) (w .past .past .fits) (w .past .past .number) (w .past .below)
-      ∙ settled-state _ _ (givenBy (seg segs i) (w .state)) false (ap (yieldOf (seg segs i)) (w .given)) (infinite-where (w .state) (w .infinite))
+      ∙ settled-state _ _ (givenBy (seg segs i) (w .value)) false (ap (yieldOf (seg segs i)) (w .given)) (infinite-where (w .value .state) (w .infinite))
       ∙ ap refusedAnswer x
 
   given-why : (r : Refusal) → Why r → AloneBy limit ev segs n i et r

@@ -37,14 +37,14 @@ use Rattle.spk.proofs.Exactly.{answered-gives}
 use Rattle.spk.proofs.OwnBytes.{byState, by-state-open, open-answered, open-by, named-forward, named-reversed, named-chained}
 
 -- a choice is one segment
-at-eq : (i j : ℕ) → _≡_ {A = Choice} (At i) (At j) → i ≡ j
+pub at-eq : (i j : ℕ) → _≡_ {A = Choice} (At i) (At j) → i ≡ j
 at-eq i j h = cc
 
-at-none : {X : Type 0} (i : ℕ) → _≡_ {A = Choice} (At i) Nothing → X
+pub at-none : {X : Type 0} (i : ℕ) → _≡_ {A = Choice} (At i) Nothing → X
 at-none i h = clash (cc)
 
 module _ (limit : ℕ) (ev : Evaluation) (segs : List Segment) (n : ℕ) (m : Memory) (q : Question) where
-  gives : (w : Way) → byState w ≡ true → answer limit ev segs n m q .way ≡ w → Gives limit ev segs n m q (answer limit ev segs n m q .given)
+  pub gives : (w : Way) → byState w ≡ true → answer limit ev segs n m q .way ≡ w → Gives limit ev segs n m q (answer limit ev segs n m q .given)
   gives w t h = answered-gives limit ev segs n m q (open-by limit ev segs n m q w t h) (ap isRefused h ∙ by-state-open w t)
 
   -- the frame of segment j, which is segment i

@@ -16,3 +16,4 @@ pub mod Settling
 pub mod Single
 pub mod TwoAnswers
 pub mod Told
+pub mod Words

@@ -35,7 +35,7 @@ way-of Chained = refl
 way-of (Refused r) = ap Refused (refusal-of r)
 
 abbrev answered : Told → Answer
-answered t = answerOf (wayOf (t .way)) (record { state = t .six; frame = t .frame })
+answered t = answerOf (wayOf (t .way)) (record { state = t .six; frame = t .frame; stretched = t .stretched })
 
 answer-of : (a : Answer) → answered (answerTold a) ≡ a
 answer-of a = ap (λ (w : Way). answerOf w (a .given)) (way-of (a .way))

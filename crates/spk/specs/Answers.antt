@@ -1,5 +1,5 @@
 -- What an answer holds, and how it comes of what segments gave. Assumes nothing: these are definitions.
-use mathlib.Core.Bool.{cond}
+use mathlib.Core.Bool.{Bool, false, cond}
 use Rattle.frame.specs.declared.Given.{Given}
 use Rattle.frame.specs.State.{zeroState, finiteState}
 use Rattle.frame.specs.Framed.{j2000}
@@ -16,13 +16,17 @@ use Rattle.spk.specs.declared.Answer.{Answer}
 abbrev pub answerOf : Way → Given → Answer
 answerOf way given = record { way = way; given = given }
 
--- A refusal: its number and detail, six zeros and no segment.
+-- A refusal: its number and detail, six zeros and no segment, and no record was stretched.
 unfoldable pub refusedAnswer : Refusal → Answer
 refusedAnswer r = answerOf (ways.Refused r) nothingGiven
 
--- Target equals center: zeros in J2000.
+-- Target equals center: zeros in J2000, of no record.
 unfoldable pub sameAnswer : Answer
-sameAnswer = answerOf ways.Same (givenOf zeroState j2000)
+sameAnswer = answerOf ways.Same (givenOf zeroState j2000 false)
+
+-- Whether a record was stretched.
+abbrev pub stretchedOf : Answer → Bool
+stretchedOf a = a .given .stretched
 
 -- The answer by a way, of what segments gave: the refusal, then 15, then the state.
 unfoldable pub settled : Way → Yielded → Answer

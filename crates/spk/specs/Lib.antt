@@ -12,3 +12,4 @@ pub mod Turning
 pub mod When
 pub mod Told
 pub mod Before
+pub mod Words

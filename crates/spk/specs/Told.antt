@@ -1,5 +1,6 @@
 -- An answer to a question, in the numbers and words of RULES, "Refusals" and "Programs". Assumes nothing: these are definitions.
 use Prim.Native.Nat.{ℕ}
+use mathlib.Core.Bool.{Bool}
 use mathlib.Core.List.{List, [], _∷_}
 use Rattle.frame.specs.declared.State.{State}
 use Rattle.frame.specs.declared.Framed.{Framed}
@@ -32,14 +33,15 @@ wayTold (Reversed i) = record { numbered = answered; word = reversed; segments =
 wayTold Chained = record { numbered = answered; word = chained; segments = [] }
 wayTold (Refused r) = record { numbered = refusedBy r; word = refused; segments = [] }
 
--- An answer: its way, the six numbers and their frame.
+-- An answer: its way, the six numbers and their frame, and whether a record was stretched.
 pub record Told : Type 0 where
   pub way : ToldWay
   pub six : State
   pub frame : Framed
+  pub stretched : Bool
 
 abbrev pub answerTold : Answer → Told
-answerTold a = record { way = wayTold (a .way); six = a .given .state; frame = a .given .frame }
+answerTold a = record { way = wayTold (a .way); six = a .given .state; frame = a .given .frame; stretched = a .given .stretched }
 
 -- With a memory: the answer, and the segment that is remembered after it, or none.
 pub record ToldAfter : Type 0 where

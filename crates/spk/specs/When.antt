@@ -8,7 +8,6 @@ use mathlib.Core.List.{List}
 use lib.Dec.{eqb}
 use lib.Ieee.{Float, isNan}
 use lib.IntN.{ℤ}
-use Rattle.frame.specs.declared.State.{State}
 use Rattle.frame.specs.declared.Given.{Given}
 use Rattle.frame.specs.declared.Turn.{Turn}
 use Rattle.frame.specs.declared.Turn.the-variants.{Stands, Forth, Back, Never}
@@ -20,6 +19,7 @@ use Rattle.refusal.specs.declared.Refusal.{Refusal}
 use Rattle.refusal.specs.declared.Refusal.the-variants.{TableUnfit}
 use Rattle.refusal.specs.Numbers.{numberOf}
 use Rattle.segment.specs.declared.Segment.{Segment}
+use Rattle.segment.specs.declared.Valued.{Valued}
 use Rattle.segment.specs.declared.Evaluated.the-variants as evaluation
 use Rattle.table.specs.declared.Choice.the-variants.{At, Nothing}
 use Rattle.table.specs.Segments.{seg}
@@ -98,8 +98,8 @@ module _ (limit : ℕ) (ev : Evaluation) (segs : List Segment) (n : ℕ) (m : Me
 
   -- The question ends with a state before 15, in the frame of the segments that gave it: the forward choice's; or, with all six negated, the reversed one's; or the target's less the center's.
   pub data Gives (g : Given) : Type 0 where
-    by-forward : (i : ℕ) (x : State) → forwardIn segs n m q ≡ At i → evaluatedAt ev segs q i ≡ evaluation.State x → givenBy (seg segs i) x ≡ g → Gives g
-    by-reversed : (i : ℕ) (x : State) → forwardIn segs n m q ≡ Nothing → lastReversed segs n q ≡ At i → evaluatedAt ev segs q i ≡ evaluation.State x → negatedGiven (givenBy (seg segs i) x) ≡ g → Gives g
+    by-forward : (i : ℕ) (x : Valued) → forwardIn segs n m q ≡ At i → evaluatedAt ev segs q i ≡ evaluation.State x → givenBy (seg segs i) x ≡ g → Gives g
+    by-reversed : (i : ℕ) (x : Valued) → forwardIn segs n m q ≡ Nothing → lastReversed segs n q ≡ At i → evaluatedAt ev segs q i ≡ evaluation.State x → negatedGiven (givenBy (seg segs i) x) ≡ g → Gives g
     by-chain : Chaining → (a : Arrives ev segs n q) (b : Arrives ev segs n (swapped q)) → minusGiven (a .0) (b .0) ≡ g → Gives g
 
   -- 10: the epoch is NaN, and no earlier test decides.
@@ -195,6 +195,6 @@ module _ (limit : ℕ) (ev : Evaluation) (segs : List Segment) (n i : ℕ) (et :
   -- 15: it is evaluated to a state, and a number of the six is not finite.
   pub record Alone15 : Type 0 where
     pub past : Evaluates
-    pub state : State
-    pub given : ev (seg segs i) i et ≡ evaluation.State state
-    pub infinite : Infinite state
+    pub value : Valued
+    pub given : ev (seg segs i) i et ≡ evaluation.State value
+    pub infinite : Infinite (value .state)

@@ -45,8 +45,8 @@ pub enum Memory {
 // How a question was answered, with the number of the segment where one alone answers.
 pub enum Way {
     Same,
-    Forward(usize),
-    Reversed(usize),
+    Forward(u32),
+    Reversed(u32),
     Chained,
     Refused(Refusal),
 }
@@ -57,7 +57,7 @@ pub enum Wanted {
     In(i32),
 }
 
-// An answer: its way, and the state with the frame of its numbers: six zeros that no segment gave where it is a refusal.
+// An answer: its way, and the state with the frame of its numbers and whether a record was stretched: six zeros that no segment gave where it is a refusal.
 pub struct Answer {
     pub way: Way,
     pub given: Given,
@@ -175,7 +175,7 @@ impl Answer {
     fn same() -> Answer
         ensures { λ r. ⌜ r ≡ sameAnswer ⌝ }
     {
-        Answer::new(Way::Same, Given::of(State::zero(), frame::J2000))
+        Answer::new(Way::Same, Given::of(State::zero(), frame::J2000, false))
     }
 
     // A refusal.
@@ -274,7 +274,10 @@ fn evaluated_at(kernel: &[u8], i: usize, s: Segment, et: f64) -> Answer
     let e = segment::evaluate(kernel, Family::Spk, s, i as u32, et);
     match e {
         Evaluated::Refused(r) => Answer::refused(r),
-        Evaluated::State(x) => Answer::of(Way::Forward(i), Given::of(x, s.frame)),
+        Evaluated::State(x) => Answer::of(
+            Way::Forward(i as u32),
+            Given::of(x.state, s.frame, x.stretched),
+        ),
     }
 }
 
@@ -298,7 +301,10 @@ pub fn reversed(kernel: &[u8], i: usize, s: Segment, q: Question) -> Answer
     let e = segment::evaluate(kernel, Family::Spk, s, i as u32, q.et);
     match e {
         Evaluated::Refused(r) => Answer::refused(r),
-        Evaluated::State(x) => Answer::of(Way::Reversed(i), Given::of(x, s.frame).negated()),
+        Evaluated::State(x) => {
+            let given = Given::of(x.state, s.frame, x.stretched);
+            Answer::of(Way::Reversed(i as u32), given.negated())
+        }
     }
 }
 

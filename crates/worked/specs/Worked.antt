@@ -3,13 +3,14 @@
 -- Assumes nothing.
 use Prim.Native.Nat.{ℕ, suc, zero}
 use mathlib.Core.Path.{_≡_, refl}
+use mathlib.Core.Bool.{cond}
 use mathlib.Core.List.{List, [], _∷_, _++_, map}
 use lib.IntN.{pos, negsuc}
 use lib.Ieee.{Float, binary64, ofInt, toBits, ofBits, toUnsigned, add, sub, mul, div, eq}
 use lib.ListN.{replicate}
 use Rattle.bits.specs.F64.{at}
 use Rattle.bits.specs.Bytes.{le32, le64}
-use Rattle.bits.specs.Record.{recordOf}
+use Rattle.bits.specs.Record.{recordOf, beside, reachOf, isStretched}
 use Rattle.refusal.specs.Numbers.{numberOf}
 use Rattle.frame.specs.declared.State.{State}
 use Rattle.frame.specs.State.{six}
@@ -24,7 +25,7 @@ use Rattle.daf.specs.declared.Opened.{Opened}
 use Rattle.daf.specs.declared.Opened.the-variants.{Accepted, Refused}
 use Rattle.cheby.specs.declared.Cheby.{Cheby}
 use Rattle.cheby.specs.declared.Cheby.the-variants.{Value, NoRadius}
-use Rattle.cheby.specs.Cheby.{T, T′, seriesAt, slopeAt, valueOf, rateOf, record2, recordFor}
+use Rattle.cheby.specs.Cheby.{T, T′, seriesAt, slopeAt, valueOf, rateOf, record2, recordFor, reachFor}
 use Rattle.interp.specs.Window.{windowSize, windowStart}
 use Rattle.interp.specs.Lagrange.{nodeFrom, nodeOf, factors, weightOf, lagrangeOf}
 use Rattle.hermite.specs.declared.Point.{Point}
@@ -83,6 +84,8 @@ given =
     ∷ first (record2 record123 3 (n 1))
     -- INIT 0, INTLEN 10, N 3: the records of et -5, 9, 10, 30
     ∷ map (λ (et : Float). recordFor (n 0) (n 10) et 3) (less 4 ∷ n 9 ∷ n 10 ∷ n 30 ∷ [])
+    -- whether they are stretched there, 1 for yes
+    ∷ map (λ (et : Float). cond (isStretched (reachFor (n 0) (n 10) et 3)) 1 0) (less 4 ∷ n 9 ∷ n 10 ∷ n 30 ∷ [])
     -- N 10, d 3: the windows of l 5, 0, 9
     ∷ map (λ (l : ℕ). windowStart l (windowSize 3 10) 10) (5 ∷ 0 ∷ 9 ∷ [])
     -- d 4, l 5
@@ -106,6 +109,7 @@ said =
     (bits half ∷ bits (n 8) ∷ [])
     ∷ (bits half ∷ bits (n 4) ∷ [])
     ∷ (0 ∷ 0 ∷ 1 ∷ 2 ∷ [])
+    ∷ (1 ∷ 0 ∷ 0 ∷ 1 ∷ [])
     ∷ (4 ∷ 0 ∷ 6 ∷ [])
     ∷ (3 ∷ [])
     ∷ (bits (n 15) ∷ [])
@@ -117,5 +121,5 @@ said =
     ∷ []
 
 pub worked : given ≡ said
-unfolding ofInt toBits ofBits toUnsigned add sub mul div le32 le64 recordOf agree nextOf countOf walkFrom walk anyOver25 total opening kept ascii nameOf T T′ seriesAt slopeAt valueOf rateOf record2 recordFor windowSize windowStart nodeFrom nodeOf factors weightOf lagrangeOf difference product product′ valueTo slopeTo tableOf hermiteOf eq
+unfolding ofInt toBits ofBits toUnsigned add sub mul div le32 le64 recordOf reachOf beside agree nextOf countOf walkFrom walk anyOver25 total opening kept ascii nameOf T T′ seriesAt slopeAt valueOf rateOf record2 recordFor reachFor windowSize windowStart nodeFrom nodeOf factors weightOf lagrangeOf difference product product′ valueTo slopeTo tableOf hermiteOf eq
 worked = refl

@@ -12,9 +12,9 @@ use Rattle.ask_text.proofs.put_answer.Statement.{statement}
 use Rattle.ask_text.proofs.put_answer.Tie as tie
 
 -- the line of an answer whose way is known
-by-way : (i : ℕ) (a : Answer) {w : Way} → a .way ≡ w → wayLine i w (a .given .state) ≡ answerText i a
+by-way : (i : ℕ) (a : Answer) {w : Way} → a .way ≡ w → wayLine i w (a .given) ≡ answerText i a
 unfolding answerText
-by-way i a e = sym (ap (λ (w : Way). wayLine i w (a .given .state)) e)
+by-way i a e = sym (ap (λ (w : Way). wayLine i w (a .given)) e)
 
 enum-told : tie.Need-enum-told
 enum-told c = search needs
@@ -66,7 +66,7 @@ unfolding wayLine
 returns c =
     let d = c .before .before in
     let e = d .before .before .before in
-    let s = e .before .before .before .before .before in
+    let s = e .before .before .before .before in
     let a = s .args in (
       subst (λ (l : List ℕ). Written (a .out .now) (a .at) l (d .put-word-line .last .0) (d .put-word-line .result)) (by-way (a .i) (a .answer) (e .enum-told .given .1))
           (d .put-word-line .ensures .0),
@@ -81,7 +81,7 @@ unfolding wayLine
 returns-2 c =
     let d = c .before .before in
     let e = d .before .before .before .before in
-    let s = e .before .before .before .before .before in
+    let s = e .before .before .before .before in
     let a = s .args in (
       subst (λ (l : List ℕ). Written (a .out .now) (a .at) l (d .put-named-line .last .0) (d .put-named-line .result)) (by-way (a .i) (a .answer) (e .way .given .1))
           (d .put-named-line .ensures .0),
@@ -96,7 +96,7 @@ unfolding wayLine
 returns-3 c =
     let d = c .before .before in
     let e = d .before .before .before .before in
-    let s = e .before .before .before .before .before in
+    let s = e .before .before .before .before in
     let a = s .args in (
       subst (λ (l : List ℕ). Written (a .out .now) (a .at) l (d .put-named-line2 .last .0) (d .put-named-line2 .result)) (by-way (a .i) (a .answer) (e .way2 .given .1))
           (d .put-named-line2 .ensures .0),
@@ -111,7 +111,7 @@ unfolding wayLine
 returns-4 c =
     let d = c .before .before in
     let e = d .before .before .before in
-    let s = e .before .before .before .before .before in
+    let s = e .before .before .before .before in
     let a = s .args in (
       subst (λ (l : List ℕ). Written (a .out .now) (a .at) l (d .put-word-line2 .last .0) (d .put-word-line2 .result)) (by-way (a .i) (a .answer) (e .enum-told2 .given .1))
           (d .put-word-line2 .ensures .0),
@@ -126,7 +126,7 @@ unfolding wayLine
 returns-5 c =
     let d = c .before .before in
     let e = d .before .before .before in
-    let s = e .before .before .before .before .before in
+    let s = e .before .before .before .before in
     let a = s .args in (
       subst (λ (l : List ℕ). Written (a .out .now) (a .at) l (d .put-numbered-refusal .last .0) (d .put-numbered-refusal .result)) (by-way (a .i) (a .answer) (e .way3 .given .1))
           (d .put-numbered-refusal .ensures .0),

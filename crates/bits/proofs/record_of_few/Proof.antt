@@ -1,24 +1,19 @@
 -- `bits::record_of_few` meets its contract: between 1 and n the whole part is a record's number, below 1 it is 0, and from n on it is past the last.
 -- Assumes nothing.
-use mathlib.Core.Path.{_≡_, sym, ap, subst}
-use mathlib.Core.Bool.{true, false}
+use mathlib.Core.Path.{_≡_, ap}
+use mathlib.Core.Bool.{true}
 use Prim.Native.Nat.{ℕ, _/_, _^_, _≤_, _<_}
 use native.Mathlib.Omega.{arith}
 use lib.Dec.{T}
 use lib.Ieee.{Float, binary64, fits, ofBits, toBits, toUnsigned, lt, le}
 use lib.Ieee.Bits.{ofBits-toBits}
-use lib.Ieee.Exact.{HasValue}
 use borrow.Author.Needs.{needs}
 use Rattle.bits.specs.F64.{one, whole}
-use Rattle.bits.proofs.Few.{above-one, part-one, part-none, part-below, part-from, placed, above-number}
+use Rattle.bits.proofs.Few.{is-whole, above-one, part-one, part-none, part-below, part-from, placed, above-number}
 use Rattle.bits.proofs.Nan.{yes}
-use Rattle.bits.proofs.Whole.{int-value, record-cut}
+use Rattle.bits.proofs.Whole.{record-cut}
 use Rattle.bits.proofs.record_of_few.Statement.{statement}
 use Rattle.bits.proofs.record_of_few.Tie as tie
-
--- the double that n was made to is n
-is-whole : (y : Float) (n : ℕ) → n < 2 ^ 53 → y ≡ whole n → HasValue y false n 1
-is-whole y n h e = subst (λ (x : Float). HasValue x false n 1) (sym e) (int-value n h)
 
 part-under : (q y : Float) (n : ℕ) → n < 2 ^ 31 → 1 ≤ n → y ≡ whole n → lt q y ≡ true → toUnsigned 64 q < n
 part-under q y n N P e h = part-below q y n P (is-whole y n (omega arith) e) h

@@ -1,13 +1,13 @@
--- `listing_text::put_mark` meets its contract. Assumes nothing.
-use mathlib.Core.Path.{sym, ap, subst}
-use mathlib.Core.List.{List}
-use Prim.Native.Nat.{ℕ}
+-- `listing_text::put_mark` meets its contract: the word, then the newline. Assumes nothing.
 use native.Mathlib.Omega.{arith}
-use Rattle.lines.specs.Written.{Written}
+use Rattle.lines.proofs.Texts.{then}
 use Rattle.listing_text.specs.Lines.{markText}
 use borrow.Author.Needs.{needs}
 use Rattle.listing_text.proofs.put_mark.Statement.{statement}
 use Rattle.listing_text.proofs.put_mark.Tie as tie
+
+put-yes-requires : tie.Need-put-yes-requires
+put-yes-requires c κs = search needs
 
 slice-aggregate-put : tie.Need-slice-aggregate-put
 slice-aggregate-put c = search needs
@@ -15,47 +15,16 @@ slice-aggregate-put c = search needs
 put-requires : tie.Need-put-requires
 put-requires c κs = search needs
 
-slice-aggregate-put-2 : tie.Need-slice-aggregate-put-2
-slice-aggregate-put-2 c = search needs
-
-put-requires-2 : tie.Need-put-requires-2
-put-requires-2 c κs = search needs
-
 same-length : tie.Need-same-length
 same-length c = search needs
 
 returns : tie.Need-returns
 unfolding markText
 returns c =
-    let d = c .before .before in
-    let t = d .before .before .before in
-    let s = t .before .before in (
-      subst (λ (l : List ℕ). Written (s .args .out .now) (s .args .at) l (d .put .last .0) (d .put .result)) (ap markText (sym (t .if1 .taken))) (d .put .ensures),
-      omega (arith, d .put .ensures .ends),
-    )
-
-same-length-2 : tie.Need-same-length-2
-same-length-2 c = search needs
-
-returns-2 : tie.Need-returns-2
-unfolding markText
-returns-2 c =
-    let d = c .before .before in
-    let t = d .before .before .before in
-    let s = t .before .before in (
-      subst (λ (l : List ℕ). Written (s .args .out .now) (s .args .at) l (d .put2 .last .0) (d .put2 .result)) (ap markText (sym (t .if1 .left))) (d .put2 .ensures),
-      omega (arith, d .put2 .ensures .ends),
-    )
+    let p = c .before .before in
+    let y = p .before .before .before .before .before in
+    (then (y .put-yes .ensures .0) (p .put .ensures), omega (arith, y .put-yes .ensures .1, p .put .ensures .ends))
 
 pub put-mark-spec : {M : Type 1} → statement M
 put-mark-spec =
-    tie.close
-    (tie.spec
-    slice-aggregate-put
-    put-requires
-    slice-aggregate-put-2
-    put-requires-2
-    same-length
-    returns
-    same-length-2
-    returns-2)
+    tie.close (tie.spec put-yes-requires slice-aggregate-put put-requires same-length returns)

@@ -10,11 +10,12 @@ use Rattle.cheby.specs.Cheby.{recordFor}
 use Rattle.cheby.proofs.Record.{refused-where}
 use Rattle.segment.specs.Kinds.{kindWith}
 use Rattle.segment.specs.Told.{evaluatedTold}
+use Rattle.segment.specs.declared.Evaluated.the-variants.{State as Answer}
 use Rattle.segment.specs.declared.Form.the-variants.{Two, Three}
 use Rattle.segment.proofs.Tests.{is-type}
 use Rattle.segment.proofs.Forms.{form-two}
 use Rattle.segment.proofs.Plain.{Fitting, two-fits, three-fits}
-use Rattle.segment.proofs.Valued.{record-below, record-ends, two-refused, two-answered, three-answered}
+use Rattle.segment.proofs.AfterTests.{at-byte, at-word, record-below, record-ends, two-refused, two-answered, three-answered}
 use Rattle.segment.proofs.evaluate.Statement.{statement}
 use Rattle.segment.proofs.evaluate.Tie as tie
 
@@ -39,10 +40,10 @@ fits-three c =
     (c .before .plainly-fits2 .ensures (c .if5 .taken))
 
 -- the record for et ends within the kernel
-ends-two : (c : tie.After-plain-byte)
+ends-two : (c : tie.After-plain-place)
     → let a = c .before .before .before .before .before .before .before .before .before .before .before .before .args in
     let t = c .before .before .before .before .of-records .result in
-    c .plain-byte .result + 8 * t .size ≤ length (now (a .kernel))
+    c .plain-place .result .byte + 8 * t .size ≤ length (now (a .kernel))
 ends-two c =
     let a = c .before .before .before .before .before .before .before .before .before .before .before .before .args in
     let t = c .before .before .before .before .of-records .result in
@@ -51,14 +52,14 @@ ends-two c =
       arith,
       r .within,
       record-ends (t .size) (recordFor (t .init) (t .intlen) (a .et) (t .count)) (t .count) (record-below (t .init) (t .intlen) (a .et) (t .count) (r .some)),
-      c .plain-byte .ensures,
+      at-byte (c .plain-place .ensures),
       c .before .start-of .ensures .0,
     )
 
-ends-three : (c : tie.After-plain-byte2)
+ends-three : (c : tie.After-plain-place2)
     → let a = c .before .before .before .before .before .before .before .before .before .before .before .before .before .before .args in
     let t = c .before .before .before .before .before .before .of-records2 .result in
-    c .plain-byte2 .result + 8 * t .size ≤ length (now (a .kernel))
+    c .plain-place2 .result .byte + 8 * t .size ≤ length (now (a .kernel))
 ends-three c =
     let a = c .before .before .before .before .before .before .before .before .before .before .before .before .before .before .args in
     let t = c .before .before .before .before .before .before .of-records2 .result in
@@ -67,7 +68,7 @@ ends-three c =
       arith,
       r .within,
       record-ends (t .size) (recordFor (t .init) (t .intlen) (a .et) (t .count)) (t .count) (record-below (t .init) (t .intlen) (a .et) (t .count) (r .some)),
-      c .plain-byte2 .ensures,
+      at-byte (c .plain-place2 .ensures),
       c .before .start-of2 .ensures .0,
     )
 
@@ -83,8 +84,8 @@ plainly-fits-requires c κs = search needs
 start-of-requires : tie.Need-start-of-requires
 start-of-requires c κs = fits-two c .placed .start-count
 
-plain-byte-requires : tie.Need-plain-byte-requires
-plain-byte-requires c κs = let r = fits-two (c .before) .records in (rw (c .start-of .ensures .0) (r .from), r .some, rw (c .start-of .ensures .0) (r .within), fits-two (c .before) .few)
+plain-place-requires : tie.Need-plain-place-requires
+plain-place-requires c κs = let r = fits-two (c .before) .records in (rw (c .start-of .ensures .0) (r .from), r .some, rw (c .start-of .ensures .0) (r .within), fits-two (c .before) .few)
 
 no-radius-requires : tie.Need-no-radius-requires
 no-radius-requires c κs = omega (arith, ends-two c, fits-two (c .before .before) .records .size)
@@ -94,7 +95,7 @@ returns c =
     let read = c .before .before in
     let start = read .before in
     in-numbers evaluatedTold
-    (two-refused _ (start .start-of .result) _ _ _ _ _ _ _ _ (read .plain-byte .ensures) refl (refused-where _ _ _ _ (sym (c .before .no-radius .ensures) ∙ c .if3 .taken))
+    (two-refused _ (start .start-of .result) _ _ _ _ _ _ _ _ (at-byte (read .plain-place .ensures)) refl (refused-where _ _ _ _ (sym (c .before .no-radius .ensures) ∙ c .if3 .taken))
     ∙ fits-two (start .before) .behind (start .start-of .result) _ _ (start .start-of .ensures .0))
 
 plain-coefficients-requires : tie.Need-plain-coefficients-requires
@@ -107,12 +108,18 @@ state2-at-requires c κs =
     let read = c .before .before .before in
     (omega (arith, ends-two read, fits-two (read .before .before) .records .size, c .plain-coefficients .ensures), sym (c .before .before .no-radius .ensures) ∙ c .before .if3 .left)
 
+of-requires : tie.Need-of-requires
+of-requires c κs = search needs
+
 returns-2 : tie.Need-returns-2
 returns-2 c =
-    let read = c .before .before .before .before in
+    let state = c .before in
+    let read = state .before .before .before .before in
     let start = read .before in
+    let place = read .plain-place .ensures in
     in-numbers evaluatedTold
-    (two-answered _ (start .start-of .result) _ _ _ _ _ _ _ _ (read .plain-byte .ensures) _ (c .before .plain-coefficients .ensures) (sym (c .state2-at .ensures))
+    (ap Answer (c .of .ensures)
+    ∙ two-answered _ (start .start-of .result) _ _ _ _ _ _ _ _ (at-byte place) _ _ (at-word place) (state .before .plain-coefficients .ensures) (sym (state .state2-at .ensures))
     ∙ fits-two (start .before) .behind (start .start-of .result) _ _ (start .start-of .ensures .0))
 
 evaluate-any-requires : tie.Need-evaluate-any-requires
@@ -136,8 +143,8 @@ plainly-fits-requires-2 c κs = search needs
 start-of-requires-2 : tie.Need-start-of-requires-2
 start-of-requires-2 c κs = fits-three c .placed .start-count
 
-plain-byte-requires-2 : tie.Need-plain-byte-requires-2
-plain-byte-requires-2 c κs = let r = fits-three (c .before) .records in (rw (c .start-of2 .ensures .0) (r .from), r .some, rw (c .start-of2 .ensures .0) (r .within), fits-three (c .before) .few)
+plain-place-requires-2 : tie.Need-plain-place-requires-2
+plain-place-requires-2 c κs = let r = fits-three (c .before) .records in (rw (c .start-of2 .ensures .0) (r .from), r .some, rw (c .start-of2 .ensures .0) (r .within), fits-three (c .before) .few)
 
 plain-coefficients-requires-2 : tie.Need-plain-coefficients-requires-2
 plain-coefficients-requires-2 c κs =
@@ -149,12 +156,18 @@ state3-at-requires c κs =
     let read = c .before in
     omega (arith, ends-three read, fits-three (read .before .before) .records .size, c .plain-coefficients2 .ensures)
 
+of-requires-2 : tie.Need-of-requires-2
+of-requires-2 c κs = search needs
+
 returns-4 : tie.Need-returns-4
 returns-4 c =
-    let read = c .before .before in
+    let state = c .before in
+    let read = state .before .before in
     let start = read .before in
+    let place = read .plain-place2 .ensures in
     in-numbers evaluatedTold
-    (three-answered _ (start .start-of2 .result) _ _ _ _ _ _ _ _ (read .plain-byte2 .ensures) _ (c .before .plain-coefficients2 .ensures) (c .state3-at .ensures)
+    (ap Answer (c .of2 .ensures)
+    ∙ three-answered _ (start .start-of2 .result) _ _ _ _ _ _ _ _ (at-byte place) _ _ (at-word place) (state .before .plain-coefficients2 .ensures) (state .state3-at .ensures)
     ∙ fits-three (start .before) .behind (start .start-of2 .result) _ _ (start .start-of2 .ensures .0))
 
 evaluate-any-requires-2 : tie.Need-evaluate-any-requires-2
@@ -171,11 +184,12 @@ evaluate-spec =
     of-records-requires
     plainly-fits-requires
     start-of-requires
-    plain-byte-requires
+    plain-place-requires
     no-radius-requires
     returns
     plain-coefficients-requires
     state2-at-requires
+    of-requires
     returns-2
     evaluate-any-requires
     returns-3
@@ -184,9 +198,10 @@ evaluate-spec =
     is-three-requires
     plainly-fits-requires-2
     start-of-requires-2
-    plain-byte-requires-2
+    plain-place-requires-2
     plain-coefficients-requires-2
     state3-at-requires
+    of-requires-2
     returns-4
     evaluate-any-requires-2
     returns-5)

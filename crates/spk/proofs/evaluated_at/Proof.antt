@@ -1,5 +1,6 @@
 -- `spk::evaluated_at` meets its contract: an answer for each arm. Assumes nothing.
 use mathlib.Core.Path.{_∙_, sym, ap}
+use lib.IntN.{ℤ}
 use mir.Syntax.{w32}
 use mir.ValLaws.{toZ-ofZ}
 use Rattle.frame.specs.declared.Given.{Given}
@@ -21,8 +22,9 @@ returns c =
 returns-2 : tie.Need-returns-2
 returns-2 c =
     let a = c .before .before .before .before .before .before .before .before .args in
+    let x = c .before .before .before .before .e2 .given .0 .0 in
     c .of2 .ensures
-    ∙ ap (λ (g : Given). settled (ways.Forward (a .i)) (yielded.Given g)) (c .before .of .ensures ∙ ap (givenOf _) (toZ-ofZ w32 (a .s .frame) (search needs)))
+    ∙ ap (λ (g : Given). settled (ways.Forward (a .i)) (yielded.Given g)) (c .before .of .ensures ∙ ap (λ (z : ℤ). givenOf (x .state) z (x .stretched)) (toZ-ofZ w32 (a .s .frame) (search needs)))
     ∙ sym (ap (λ e. settled (ways.Forward (a .i)) (yieldOf (a .s) e)) (sym (c .before .before .before .before .before .before .evaluate .ensures .0) ∙ c .before .before .before .before .e2 .given .1))
 
 -- ---- by search
@@ -48,6 +50,9 @@ of-requires c κs = search needs
 of-requires-2 : tie.Need-of-requires-2
 of-requires-2 c κs = search needs
 
+cast-t11 : tie.Need-cast-t11
+cast-t11 c = search needs
+
 pub evaluated-at-spec : {M : Type 1} → statement M
 evaluated-at-spec =
     tie.close
@@ -57,6 +62,7 @@ evaluated-at-spec =
     enum-known-e
     refused-requires
     enum-known-e-2
+    cast-t11
     of-requires
     of-requires-2
     returns

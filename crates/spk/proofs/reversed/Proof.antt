@@ -1,5 +1,6 @@
 -- `spk::reversed` meets its contract: an answer for each arm. Assumes nothing.
 use mathlib.Core.Path.{_∙_, sym, ap}
+use lib.IntN.{ℤ}
 use mir.Syntax.{w32}
 use mir.ValLaws.{toZ-ofZ}
 use Rattle.frame.specs.declared.Given.{Given}
@@ -21,9 +22,10 @@ returns c =
 returns-2 : tie.Need-returns-2
 returns-2 c =
     let a = c .before .before .before .before .before .before .before .before .before .args in
+    let x = c .before .before .before .before .before .e2 .given .0 .0 in
     c .of2 .ensures
     ∙ ap (λ (g : Given). settled (ways.Reversed (a .i)) (yielded.Given g))
-    (c .before .negated .ensures ∙ ap negatedGiven (c .before .before .of .ensures ∙ ap (givenOf _) (toZ-ofZ w32 (a .s .frame) (search needs))))
+    (c .before .negated .ensures ∙ ap negatedGiven (c .before .before .of .ensures ∙ ap (λ (z : ℤ). givenOf (x .state) z (x .stretched)) (toZ-ofZ w32 (a .s .frame) (search needs))))
     ∙ sym
     (ap (settled (ways.Reversed (a .i)))
     (negated-state _ _
@@ -55,6 +57,9 @@ negated-requires c κs = search needs
 of-requires-2 : tie.Need-of-requires-2
 of-requires-2 c κs = search needs
 
+cast-t12 : tie.Need-cast-t12
+cast-t12 c = search needs
+
 pub reversed-spec : {M : Type 1} → statement M
 reversed-spec =
     tie.close
@@ -65,6 +70,7 @@ reversed-spec =
     refused-requires
     enum-known-e-2
     of-requires
+    cast-t12
     negated-requires
     of-requires-2
     returns

@@ -9,7 +9,7 @@ negated-requires : tie.Need-negated-requires
 negated-requires c κs = search needs
 
 returns : tie.Need-returns
-returns c = given-eq _ _ (c .negated .ensures) refl
+returns c = given-eq _ _ (c .negated .ensures) refl refl
 
 pub negated-spec : {M : Type 1} → statement M
 negated-spec = tie.close (tie.spec negated-requires returns)

@@ -9,7 +9,7 @@ zero-requires : tie.Need-zero-requires
 zero-requires c κs = search needs
 
 returns : tie.Need-returns
-returns c = given-eq _ _ (c .zero .ensures) refl
+returns c = given-eq _ _ (c .zero .ensures) refl refl
 
 pub nothing-spec : {M : Type 1} → statement M
 nothing-spec = tie.close (tie.spec zero-requires returns)

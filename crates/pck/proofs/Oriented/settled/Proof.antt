@@ -36,7 +36,7 @@ returns c = c .refused .ensures ∙ sym (settled-refused _ _ _ (c .before .befor
 returns-2 : tie.Need-returns-2
 returns-2 c =
     c .new .ensures
-    ∙ ap (λ (f : ℤ). orientedOf Turned f (c .before .before .before .before .before .e2 .given .0 .0)) (toZ-ofZ w32 (c .before .before .before .before .before .before .before .args .s .frame) (search needs))
+    ∙ ap (λ (f : ℤ). orientedOf Turned f (c .before .before .before .before .before .e2 .given .0 .0 .state) (c .before .before .before .before .before .e2 .given .0 .0 .stretched)) (toZ-ofZ w32 (c .before .before .before .before .before .before .before .args .s .frame) (search needs))
     ∙ sym (settled-state _ _ _ true (c .before .before .before .before .before .e2 .given .1) (sym (c .before .before .before .is-finite .ensures) ∙ c .before .before .if1 .taken))
 
 returns-3 : tie.Need-returns-3

@@ -1,13 +1,15 @@
 -- `segment::type3` meets its contract: the record lies within the kernel. Assumes nothing.
-use Rattle.segment.proofs.Valued.{record-below, record-ends, three-answered}
+use Rattle.segment.proofs.AfterTests.{record-below, record-ends, at-byte, at-word, three-answered}
+use Rattle.segment.specs.declared.Evaluated.the-variants.{State as Answer}
 use Rattle.cheby.specs.Cheby.{recordFor}
 use native.Mathlib.Omega.{arith}
+use mathlib.Core.Path.{ap, _∙_}
 use borrow.Author.Needs.{needs}
 use Rattle.segment.proofs.evaluating.type3.Statement.{statement}
 use Rattle.segment.proofs.evaluating.type3.Tie as tie
 
-record-byte-requires : tie.Need-record-byte-requires
-record-byte-requires c κs = search needs
+record-place-requires : tie.Need-record-place-requires
+record-place-requires c κs = search needs
 
 coefficients-requires : tie.Need-coefficients-requires
 coefficients-requires c κs = search needs
@@ -22,13 +24,19 @@ type3-at-requires c κs =
       p .within,
       p .size,
       record-ends (a .t .size) r (a .t .count) (record-below (a .t .init) (a .t .intlen) (a .et) (a .t .count) (p .some)),
-      c .before .record-byte .ensures,
+      at-byte (c .before .record-place .ensures),
       c .coefficients .ensures,
     )
 
+of-requires : tie.Need-of-requires
+of-requires c κs = search needs
+
 returns : tie.Need-returns
-returns c = three-answered _ _ _ _ _ _ _ _ _ _ (c .before .before .record-byte .ensures) _ (c .before .coefficients .ensures) (c .type3-at .ensures)
+returns c =
+    let read = c .before in
+    let place = read .before .before .record-place .ensures in
+    ap Answer (c .of .ensures) ∙ three-answered _ _ _ _ _ _ _ _ _ _ (at-byte place) _ _ (at-word place) (read .before .coefficients .ensures) (read .type3-at .ensures)
 
 pub type3-spec : {M : Type 1} → statement M
 type3-spec =
-    tie.close (tie.spec record-byte-requires coefficients-requires type3-at-requires returns)
+    tie.close (tie.spec record-place-requires coefficients-requires type3-at-requires of-requires returns)

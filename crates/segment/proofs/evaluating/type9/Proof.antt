@@ -1,5 +1,5 @@
 -- `segment::type9` meets its contract. Assumes nothing.
-use Rattle.segment.proofs.Valued.{nine-refused, nine-answered}
+use Rattle.segment.proofs.AfterTests.{nine-refused, nine-answered}
 use Rattle.segment.specs.declared.Evaluated.the-variants.{State as Answer}
 use borrow.Author.Tests.{eq-eqb, ne-eqb}
 use mathlib.Core.Path.{sym, ap, _∙_}
@@ -13,19 +13,42 @@ window-size-requires c κs = search needs
 returns : tie.Need-returns
 returns c = nine-refused _ _ _ _ _ _ (eq-eqb _ _ (sym (c .before .window-size .ensures) ∙ c .if1 .taken))
 
-sub-type9-at : tie.Need-sub-type9-at
-sub-type9-at c = search needs
+sub-p : tie.Need-sub-p
+sub-p c = search needs
 
-mul-type9-at : tie.Need-mul-type9-at
-mul-type9-at c = search needs
+mul-p : tie.Need-mul-p
+mul-p c = search needs
+
+reach-at-requires : tie.Need-reach-at-requires
+reach-at-requires c κs = search needs
 
 type9-at-requires : tie.Need-type9-at-requires
 type9-at-requires c κs = search needs
 
+is-stretched-requires : tie.Need-is-stretched-requires
+is-stretched-requires c κs = search needs
+
+of-requires : tie.Need-of-requires
+of-requires c κs = search needs
+
 returns-2 : tie.Need-returns-2
-returns-2 c = ap Answer (c .type9-at .ensures) ∙ nine-answered _ _ _ _ _ _ (ne-eqb _ _ (λ q. c .before .if1 .left (c .before .before .window-size .ensures ∙ q)))
+returns-2 c =
+    let word = c .before in
+    let state = word .before in
+    let reach = state .before in
+    ap Answer (c .of .ensures)
+    ∙ nine-answered _ _ _ _ _ _ (ne-eqb _ _ (λ q. reach .before .if1 .left (reach .before .before .window-size .ensures ∙ q))) _ _ _ (reach .reach-at .ensures) (word .is-stretched .ensures) (state .type9-at .ensures)
 
 pub type9-spec : {M : Type 1} → statement M
 type9-spec =
     tie.close
-    (tie.spec window-size-requires returns sub-type9-at mul-type9-at type9-at-requires returns-2)
+    (tie.spec
+    window-size-requires
+    returns
+    sub-p
+    mul-p
+    reach-at-requires
+    type9-at-requires
+    is-stretched-requires
+    of-requires
+    returns-2)

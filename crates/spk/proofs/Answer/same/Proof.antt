@@ -1,4 +1,5 @@
 -- `spk::Answer::same` meets its contract. Assumes nothing.
+use mathlib.Core.Bool.{false}
 use mathlib.Core.Path.{_∙_, ap}
 use Rattle.spk.specs.declared.Way.the-variants.{Same}
 use Rattle.frame.specs.declared.State.{State}
@@ -20,7 +21,7 @@ new-requires c κs = search needs
 
 returns : tie.Need-returns
 unfolding sameAnswer
-returns c = c .new .ensures ∙ ap (answerOf Same) (c .before .of .ensures ∙ ap (λ (s : State). givenOf s j2000) (c .before .before .zero .ensures))
+returns c = c .new .ensures ∙ ap (answerOf Same) (c .before .of .ensures ∙ ap (λ (s : State). givenOf s j2000 false) (c .before .before .zero .ensures))
 
 pub same-spec : {M : Type 1} → statement M
 same-spec = tie.close (tie.spec zero-requires of-requires new-requires returns)
