@@ -1,4 +1,7 @@
 // A kernel and a file of records that is put to it: the refusals that come before any line is written, or the plan of the kernel's opening.
+
+#![tactic(auto)]
+
 ghost use Rattle.std.specs.Prelude.{◌≡◌, ◌≤◌};
 ghost use Rattle.table.specs.Places.{limit_of};
 ghost use Rattle.admission.specs.Order.{too_long, any_too_long, matrix_for, run_plan, plan_for, opened_for};
@@ -10,7 +13,7 @@ use refusal::Refusal;
 use table::Table;
 
 // What becomes of a run with a matrix file.
-#[derive(Drop)]
+#[derive(Clone, Copy)]
 pub enum Matrix {
     // a file is over a program's limit: 18
     TooLong,

@@ -1,5 +1,8 @@
 // ask KERNEL QUESTIONS [MATRIX [FRAME]]: puts the questions of a file to an SPK kernel and writes a line for each answer, or the refusal.
 // Every file is read before anything is written. A matrix file is none unless it has 72 bytes.
+
+#![tactic(auto)]
+
 ghost use Rattle.std.specs.Prelude.{◌≤◌, ◌+◌, length};
 ghost use Rattle.streams.specs.Input.{input_limit};
 

@@ -1,4 +1,7 @@
 // A file of questions put to an SPK kernel: its records, a line for each answer, and the whole text, put into a buffer that the caller lends.
+
+#![tactic(auto)]
+
 ghost use Rattle.std.specs.Prelude.{◌≡◌, ◌+◌, ◌*◌, ◌≤◌, ◌<◌, pos, neg_ℤ, length};
 ghost use Rattle.daf.specs.declared.Family.TheVariants.{Spk};
 ghost use Rattle.lines.specs.Written.{Written};
@@ -26,14 +29,14 @@ use spk::{Answer, Asked, Memory, Question, Wanted, Way};
 use table::Table;
 
 // A run of decimal digits: the number that it stands for, up to 2^31.
-#[derive(Drop)]
+#[derive(Clone, Copy)]
 enum Digits {
     Value(u32),
     NoValue,
 }
 
 // What the argument FRAME says.
-#[derive(Drop)]
+#[derive(Clone, Copy)]
 pub enum FrameArgument {
     Number(i32),
     NoNumber,

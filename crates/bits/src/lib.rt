@@ -1,5 +1,7 @@
 // Numbers and doubles read from little-endian bytes, and whole numbers worked out from a double's bits.
 
+#![tactic(auto)]
+
 ghost use Rattle.std.specs.Prelude.{◌≡◌, true, ◌+◌, ◌*◌, ◌/◌, ◌^◌, ◌≤◌, ◌<◌, length};
 ghost use Rattle.std.specs.Float.Ieee.{to_unsigned};
 ghost use Rattle.bits.specs.Bytes.{le32, le64, signed32, double_of, double_at};
@@ -8,7 +10,7 @@ ghost use Rattle.bits.specs.Same.{same};
 ghost use Rattle.bits.specs.F64.{finite, whole};
 
 // Where a quotient falls beside the records of a segment: before the first, inside, or after the last.
-#[derive(Drop)]
+#[derive(Clone, Copy)]
 pub enum Reach {
     Before,
     Inside,

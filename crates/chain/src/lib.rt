@@ -1,4 +1,7 @@
 // The walk towards body 0 that a chained answer takes, as `state_wrt_ssb` and `step_toward_ssb` of the Rust: what one step and one walk go by.
+
+#![tactic(auto)]
+
 ghost use Rattle.std.specs.Prelude.{◌≡◌, true, ◌<◌};
 ghost use Rattle.daf.specs.declared.Family.TheVariants.{Spk};
 ghost use Rattle.segment.specs.Evaluating.{evaluated};
@@ -13,7 +16,7 @@ use refusal::Refusal;
 use segment::{Evaluated, Segment};
 
 // Where a walk is: the body that it started from, the current one, the epoch, and the sum so far.
-#[derive(Drop)]
+#[derive(Clone, Copy)]
 pub struct Leg {
     pub start: i32,
     pub body: i32,
@@ -27,14 +30,14 @@ impl Leg {
 }
 
 // A segment that leaves the current body: the body that it goes to, and the state that it gives.
-#[derive(Drop)]
+#[derive(Clone, Copy)]
 pub struct Hop {
     pub center: i32,
     pub given: Given,
 }
 
 // What a step's scan has resulted in: no segment yet, the first that it met, one that goes to body 0, or a refusal. The last two end it.
-#[derive(Drop)]
+#[derive(Clone, Copy)]
 pub enum Step {
     Blocked,
     Kept(Hop),
@@ -43,14 +46,14 @@ pub enum Step {
 }
 
 // What segments gave together, or the refusal that came of them.
-#[derive(Drop)]
+#[derive(Clone, Copy)]
 pub enum Yielded {
     Given(Given),
     Refused(Refusal),
 }
 
 // What the walk results in after a step: its end, or the next leg.
-#[derive(Drop)]
+#[derive(Clone, Copy)]
 pub enum Next {
     Ended(Yielded),
     Onward(Leg),

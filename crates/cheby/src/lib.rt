@@ -2,6 +2,8 @@
 // Operations and their order are those of `cheby3_val_and_deriv` and `cheby3_val_only` of the Rust. There are two ways to the same state: the plain
 // one tests each double for a NaN, and the quick one makes one pass over a record first and then takes its doubles as they are.
 
+#![tactic(auto)]
+
 ghost use Rattle.std.specs.Prelude.{◌≡◌, Bool, true, false, ℕ, ◌+◌, ◌-◌, ◌*◌, ◌%◌, ◌^◌, ◌≤◌, ◌<◌, Float, length};
 ghost use Rattle.std.specs.Float.Ieee.{is_nan, eq};
 ghost use Rattle.bits.specs.F64.{finite, +0};
@@ -14,14 +16,14 @@ use bits::Reach;
 use frame::State;
 
 // The record for an epoch, and where the epoch falls beside the records.
-#[derive(Drop)]
+#[derive(Clone, Copy)]
 pub struct Chosen {
     pub number: u64,
     pub reach: Reach,
 }
 
 // What a type 2 record gives.
-#[derive(Drop)]
+#[derive(Clone, Copy)]
 pub enum Cheby {
     Value(State),
     // RADIUS is +0 or -0.
@@ -29,7 +31,7 @@ pub enum Cheby {
 }
 
 // A number for each of three series.
-#[derive(Drop)]
+#[derive(Clone, Copy)]
 struct Triple {
     x: f64,
     y: f64,
@@ -37,14 +39,14 @@ struct Triple {
 }
 
 // The values of three series, and their derivatives by s.
-#[derive(Drop)]
+#[derive(Clone, Copy)]
 struct Both {
     value: Triple,
     slope: Triple,
 }
 
 // The sums over the first terms of three series, values and derivatives, with the last two polynomials and their derivatives.
-#[derive(Drop)]
+#[derive(Clone, Copy)]
 struct Run {
     t0: f64,
     t1: f64,
@@ -55,7 +57,7 @@ struct Run {
 }
 
 // The same of twice three series, without the derivatives.
-#[derive(Drop)]
+#[derive(Clone, Copy)]
 struct SixRun {
     t0: f64,
     t1: f64,
@@ -64,14 +66,14 @@ struct SixRun {
 }
 
 // The values of twice three series.
-#[derive(Drop)]
+#[derive(Clone, Copy)]
 struct Six {
     first: Triple,
     second: Triple,
 }
 
 // Four sums, for a pass over doubles four at a time. They need no more than f32, of which a register holds four.
-#[derive(Drop)]
+#[derive(Clone, Copy)]
 struct Sums {
     a: f32,
     b: f32,

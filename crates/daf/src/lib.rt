@@ -1,5 +1,8 @@
 // The DAF container of every binary kernel: the file record, the walk over the summary records, their summaries, names and addresses.
 // The kernel is lent to every call, and nothing is copied out of it but numbers.
+
+#![tactic(auto)]
+
 ghost use Rattle.std.specs.Prelude.{◌≡◌, ◌+◌, ◌*◌, ◌≤◌, ◌<◌, length};
 ghost use Rattle.daf.specs.FileRecord.{ni_of, file_record};
 ghost use Rattle.daf.specs.Walk.{walk};
@@ -18,10 +21,10 @@ use file_words::{shaped, spells};
 use names::{is_ascii, without_nuls, without_spaces};
 use refusal::Refusal;
 use summaries::{pck_summary, seek, spk_summary};
-use walk_steps::{count_of, next_record, past_end_lem};
+use walk_steps::{count_of, next_record, past_end};
 
 // Which kernel a DAF is: it decides what a summary holds.
-#[derive(Drop)]
+#[derive(Clone, Copy)]
 pub enum Family {
     Spk,
     Pck,
@@ -40,7 +43,7 @@ impl Family {
 }
 
 // An opened DAF: its first summary record, how many there are, and how many summaries they hold.
-#[derive(Drop)]
+#[derive(Clone, Copy)]
 pub struct Daf {
     pub first: u32,
     pub records: usize,
@@ -53,34 +56,34 @@ impl Daf {
 }
 
 // What the file record results in: the first summary record, or a refusal.
-#[derive(Drop)]
+#[derive(Clone, Copy)]
 pub enum Head {
     First(u32),
     Refused(Refusal),
 }
 
 // What the walk results in: how many records it goes over, or a refusal.
-#[derive(Drop)]
+#[derive(Clone, Copy)]
 pub enum Walked {
     Records(usize),
     Refused(Refusal),
 }
 
-#[derive(Drop)]
+#[derive(Clone, Copy)]
 pub enum Opened {
     Accepted(Daf),
     Refused(Refusal),
 }
 
 // Where a summary stands: its record, and its number there.
-#[derive(Drop)]
+#[derive(Clone, Copy)]
 pub struct Place {
     pub rec: u32,
     pub index: usize,
 }
 
 // What a summary holds, with the place of its name. A PCK's body frame is its target, its reference frame the frame.
-#[derive(Drop)]
+#[derive(Clone, Copy)]
 pub struct Summary {
     pub first: f64,
     pub last: f64,
@@ -94,7 +97,7 @@ pub struct Summary {
 }
 
 // The summary that comes next: its place, how many its record holds, and how many records are left after that one.
-#[derive(Drop)]
+#[derive(Clone, Copy)]
 pub struct Cursor {
     pub rec: u32,
     pub index: usize,
@@ -133,7 +136,7 @@ pub fn walk(kernel: &[u8], first: u32) -> Walked
     let mut r = first;
     let mut n: usize = 0;
     while r != 0 {
-        if past_end_lem(kernel, r) {
+        if past_end(kernel, r) {
             return Walked::Refused(Refusal::RecordPastEnd);
         }
         // the kernel has no more records than that: one of them came a second time

@@ -5,7 +5,7 @@ ghost use Rattle.daf.specs.Walk.{next_of, count_of, past_end};
 use super::Daf;
 
 // Summary record r or the name record after it ends past the kernel.
-pub fn past_end_lem(kernel: &[u8], r: u32) -> bool
+pub fn past_end(kernel: &[u8], r: u32) -> bool
     ensures { result ≡ past_end kernel.now r }
 {
     kernel.len() < Daf::RECORD * (r as usize + 1)

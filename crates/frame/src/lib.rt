@@ -1,6 +1,8 @@
 // States, the 3 by 3 matrices that turn them, and the frames of their numbers. A matrix is given row by row, as an array of arrays by value.
 // The Rust's loops over 3 places are written out: the operations and their order stay.
 
+#![tactic(auto)]
+
 ghost use Rattle.std.specs.Prelude.{◌≡◌, ◌||◌};
 ghost use Rattle.frame.specs.State.{zero_state, negated_state, plus_state, minus_state, finite_state};
 ghost use Rattle.bits.specs.Same.{same_z};
@@ -9,7 +11,7 @@ ghost use Rattle.frame.specs.Framed.{is_forth, turn_from, turn_of, joined_one, j
 ghost use Rattle.frame.specs.Given.{nothing_given, given_of, negated_given, plus_given, minus_given, turned_given};
 
 // Position and velocity.
-#[derive(Drop)]
+#[derive(Clone, Copy)]
 pub struct State {
     pub x: f64,
     pub y: f64,
@@ -133,7 +135,7 @@ pub const J2000: i32 = 1;
 pub const ECLIPJ2000: i32 = 17;
 
 // The frame of the numbers that segments gave: no segment has entered, all were of this frame, or they were of several.
-#[derive(Drop)]
+#[derive(Clone, Copy)]
 pub enum Framed {
     Nothing,
     One(i32),
@@ -141,7 +143,7 @@ pub enum Framed {
 }
 
 // How a state is turned to a frame: it stands, the matrix turns it, its transpose does, or nothing.
-#[derive(Drop)]
+#[derive(Clone, Copy)]
 pub enum Turn {
     Stands,
     Forth,
@@ -150,7 +152,7 @@ pub enum Turn {
 }
 
 // Two frames, by their numbers.
-#[derive(Drop)]
+#[derive(Clone, Copy)]
 struct Frames {
     from: i32,
     to: i32,
@@ -247,7 +249,7 @@ impl Framed {
 // ---- a state, with what is known of it
 
 // A state that segments gave, the frame of its numbers, and whether a record of one of them was stretched.
-#[derive(Drop)]
+#[derive(Clone, Copy)]
 pub struct Given {
     pub state: State,
     pub frame: Framed,

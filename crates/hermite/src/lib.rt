@@ -2,6 +2,8 @@
 // and a column of divided differences, which the next one overwrites. The coefficient of order k is the first number of column k, so the Newton form is
 // summed as the columns are made.
 
+#![tactic(auto)]
+
 ghost use Rattle.std.specs.Prelude.{◌≡◌, ℕ, ◌+◌, ◌*◌, ◌/◌, ◌≤◌, ◌<◌, length};
 ghost use Rattle.bits.specs.F64.{at};
 ghost use Rattle.bits.specs.Bytes.{every};
@@ -13,14 +15,14 @@ ghost use Rattle.hermite.specs.Steps.{axis_column, axis_table};
 use frame::State;
 
 // A value and a derivative.
-#[derive(Drop)]
+#[derive(Clone, Copy)]
 pub struct Point {
     pub value: f64,
     pub slope: f64,
 }
 
 // The Newton form so far: its value and derivative, and the product of the factors with its derivative.
-#[derive(Drop)]
+#[derive(Clone, Copy)]
 pub struct Newton {
     pub val: f64,
     pub der: f64,

@@ -1,5 +1,8 @@
 // The index of a table by target: a slice of numbers that the caller lends, in four parts of equal length. An entry is one more than a
 // segment's number, or 0 for none. Whatever it holds, a walk through it ends, and goes to segments of the table only.
+
+#![tactic(auto)]
+
 ghost use Rattle.std.specs.Prelude.{◌≡◌, cond, suc, ◌+◌, ◌-◌, ◌≤◌, ◌<◌, length};
 ghost use Rattle.index.specs.Buckets.{unsigned_of, bucket_of};
 ghost use Rattle.index.specs.Visiting.{place_in, start_of, next_down, next_up, on_down};

@@ -1,5 +1,8 @@
 // Openings and questions with an index that the caller lends beside the table: `lent`'s, by the segments that the index names alone.
 // The functions over a slice of segments are thin and proved by hand, as in `lent`.
+
+#![tactic(auto)]
+
 ghost use Rattle.std.specs.Prelude.{◌≡◌, ◌≤◌, ◌<◌, length, true, not};
 ghost use Rattle.daf.specs.declared.Family.TheVariants.{Spk};
 ghost use Rattle.segment.specs.Evaluating.{evaluated};

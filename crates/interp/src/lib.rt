@@ -1,5 +1,7 @@
 // Types 9 and 13: the search for an epoch, the window around it, Lagrange, and Hermite of the crate `hermite`.
 
+#![tactic(auto)]
+
 mod lagrange;
 
 ghost use Rattle.std.specs.Prelude.{◌≡◌, ◌+◌, ◌*◌, ◌-◌, ◌≤◌, ◌<◌, min, length};

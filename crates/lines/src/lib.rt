@@ -1,5 +1,8 @@
 // The text of the programs' lines, put into a buffer that the caller lends, from a place on. Each function answers the place after its text.
 // The contracts give every byte; that a line is then written is beyond them, since no contract can speak of what a program writes.
+
+#![tactic(auto)]
+
 ghost use Rattle.std.specs.Prelude.{◌≡◌, ◌+◌, ◌≤◌, ◌<◌, length, nat_abs};
 ghost use Rattle.std.specs.Float.{binary64};
 ghost use Rattle.std.specs.Float.Ieee.{to_bits};

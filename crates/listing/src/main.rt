@@ -1,4 +1,7 @@
 // Lists the segments of the SPK kernel on standard input: how many, then a line each; or the refusal.
+
+#![tactic(auto)]
+
 use streams::Input;
 
 fn main() {

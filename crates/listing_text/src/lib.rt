@@ -1,5 +1,8 @@
 // The listing of an SPK kernel, put into a buffer that the caller lends: from the bytes of the kernel to every byte of the output.
 // `put_segments` and `put_text` touch a slice of segments: they are thin, and proved by hand as in `lent`.
+
+#![tactic(auto)]
+
 ghost use Rattle.std.specs.Prelude.{◌≡◌, ◌+◌, ◌*◌, ◌≤◌, length};
 ghost use Rattle.lines.specs.Written.{Written};
 ghost use Rattle.daf.specs.declared.Family.TheVariants.{Spk};

@@ -1,4 +1,7 @@
 // The opening of a kernel, SPK or PCK: refusals 1 to 9, or what is to be filled into how many places.
+
+#![tactic(auto)]
+
 ghost use Rattle.std.specs.Prelude.{◌≡◌, ◌≤◌};
 ghost use Rattle.daf.specs.Opening.{opening};
 ghost use Rattle.daf.specs.Steps.{next_cursor};
@@ -12,14 +15,14 @@ use segment::{Judged, Segment};
 use table::Table;
 
 // Whether a kernel was opened by value, or the refusal.
-#[derive(Drop)]
+#[derive(Clone, Copy)]
 pub enum Outcome {
     Accepted,
     Refused(Refusal),
 }
 
 // An opening by value: the table has 0 segments where it was refused.
-#[derive(Drop)]
+#[derive(Clone, Copy)]
 pub struct Opened {
     pub outcome: Outcome,
     pub table: Table,
@@ -28,14 +31,14 @@ pub struct Opened {
 // ---- the plan: all is judged from the kernel and the number of places, before any place is written
 
 // What an opening does: fills so many places with the segments from a cursor on, or refuses.
-#[derive(Drop)]
+#[derive(Clone, Copy)]
 pub enum Plan {
     Fill(usize, Cursor),
     Refuse(Refusal),
 }
 
 // Whether a kernel was opened, with how many segments, or the refusal.
-#[derive(Drop)]
+#[derive(Clone, Copy)]
 pub enum Found {
     Accepted(usize),
     Refused(Refusal),

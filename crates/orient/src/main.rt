@@ -1,5 +1,8 @@
 // orient KERNEL QUESTIONS: puts the questions of a file to a PCK kernel and writes a line for each orientation, or the refusal.
 // Both files are read before anything is written.
+
+#![tactic(auto)]
+
 ghost use Rattle.std.specs.Prelude.{◌≤◌, ◌+◌, length};
 ghost use Rattle.streams.specs.Input.{input_limit};
 

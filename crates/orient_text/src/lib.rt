@@ -1,4 +1,7 @@
 // A file of questions put to a PCK kernel: its records, a line for each orientation, and the whole text, put into a buffer that the caller lends.
+
+#![tactic(auto)]
+
 ghost use Rattle.std.specs.Prelude.{◌≡◌, ◌+◌, ◌*◌, ◌≤◌, ◌<◌, length};
 ghost use Rattle.daf.specs.declared.Family.TheVariants.{Pck};
 ghost use Rattle.lines.specs.Written.{Written};

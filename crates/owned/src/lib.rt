@@ -1,4 +1,7 @@
 // The table by value, 256 places, for small hosts. Each function owns its array and lends it to `lent`: there is no second body of code.
+
+#![tactic(auto)]
+
 ghost use Rattle.std.specs.Prelude.{◌≡◌, []};
 ghost use Rattle.daf.specs.declared.Family.TheVariants.{Spk, Pck};
 ghost use Rattle.table.specs.Naming.{name_at};
@@ -19,7 +22,7 @@ use spk::{Answer, Asked, Memory, Question, Wanted};
 use table::Table;
 
 // An SPK opened: what the opening results in, and the memory that the first question takes.
-#[derive(Drop)]
+#[derive(Clone, Copy)]
 pub struct OpenedSpk {
     pub opened: Opened,
     pub memory: Memory,

@@ -1,4 +1,7 @@
 // Questions to an opened PCK: the angles of a body frame, and the reference frame that they are about. There is no memory.
+
+#![tactic(auto)]
+
 ghost use Rattle.std.specs.Prelude.{◌≡◌, ◌<◌};
 ghost use Rattle.daf.specs.declared.Family.TheVariants.{Pck};
 ghost use Rattle.segment.specs.Evaluating.{evaluated};
@@ -15,14 +18,14 @@ use segment::{Evaluated, Segment};
 use table::{Choice, Table};
 
 // The orientation of a body frame at an epoch.
-#[derive(Drop)]
+#[derive(Clone, Copy)]
 pub struct Question {
     pub body: i32,
     pub et: f64,
 }
 
 // How a question ended.
-#[derive(Drop)]
+#[derive(Clone, Copy)]
 pub enum Outcome {
     Turned,
     Refused(Refusal),
@@ -30,7 +33,7 @@ pub enum Outcome {
 
 // An orientation: the segment's reference frame, the three angles and their rates, and whether a record was stretched; frame 0 and six zeros where it is a
 // refusal.
-#[derive(Drop)]
+#[derive(Clone, Copy)]
 pub struct Oriented {
     pub outcome: Outcome,
     pub frame: i32,

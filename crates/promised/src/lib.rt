@@ -1,1 +1,3 @@
 // What a contract leaves no choice in: see specs/Promised.antt. There is no code here.
+
+#![tactic(auto)]

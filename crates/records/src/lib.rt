@@ -1,9 +1,12 @@
 // Files of records: each record has so many bytes, of which the first two are its mark.
+
+#![tactic(auto)]
+
 ghost use Rattle.std.specs.Prelude.{◌≡◌, ◌+◌, ◌*◌, ◌≤◌, length};
 ghost use Rattle.records.specs.Records.{begins, is_marked, records_fit};
 
 // The two bytes that a record begins with.
-#[derive(Drop)]
+#[derive(Clone, Copy)]
 pub struct Mark {
     pub first: u8,
     pub second: u8,

@@ -1,8 +1,11 @@
 // The refusals of RULES, "Refusals", a case for each number, with what its detail is made of.
+
+#![tactic(auto)]
+
 ghost use Rattle.std.specs.Prelude.{◌≡◌};
 ghost use Rattle.refusal.specs.Numbers.{number_of, detail_of};
 
-#[derive(Drop)]
+#[derive(Clone, Copy)]
 pub enum Refusal {
     // 1: the kernel has under 1,024 or over 1,073,741,824 bytes
     KernelLength,

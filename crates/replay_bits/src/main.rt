@@ -1,4 +1,7 @@
 // For each 8 bytes of its input writes a line of hexadecimal numbers: what each function of `bits` makes of them.
+
+#![tactic(auto)]
+
 ghost use Rattle.std.specs.Prelude.{◌+◌, ◌≤◌, ◌<◌, length};
 
 // One hexadecimal digit.

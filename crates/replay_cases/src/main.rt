@@ -3,6 +3,9 @@
 // it is the kernel itself, of the kernel and of the questions), 72 bytes of matrix and the frame's number in four if in a frame, and the three parts.
 // tests/oracle/stored.py makes the stored files and their lines, which are the given Rust's, but for alone.cases and frames.cases, which
 // tests/vectors/alone.py and frames.py make with the second program's lines. It stands for a small host: the table goes by value, 256 places.
+
+#![tactic(auto)]
+
 ghost use Rattle.std.specs.Prelude.{◌+◌, ◌*◌, ◌≤◌, length};
 
 use daf::Family;

@@ -1,5 +1,8 @@
 // Chooses and evaluates Chebyshev records, and writes six numbers for each question. A block of the input is a segment: 48 bytes of head, then its records.
 // tests/vectors/cheby.py makes the blocks and has the Rust answer them.
+
+#![tactic(auto)]
+
 ghost use Rattle.std.specs.Prelude.{◌+◌, ◌≤◌, ◌<◌, length};
 
 use frame::State;

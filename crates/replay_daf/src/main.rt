@@ -1,5 +1,8 @@
 // Opens each kernel of its input as an SPK and as a PCK, and writes what that results in, and the name after the first summary record.
 // The input is kernel after kernel, each after its length in four bytes.
+
+#![tactic(auto)]
+
 ghost use Rattle.std.specs.Prelude.{◌+◌, ◌≤◌, length};
 
 use daf::{Daf, Family, Opened};

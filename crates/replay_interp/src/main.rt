@@ -1,5 +1,8 @@
 // Runs types 9 and 13 on blocks from standard input and writes, for each, where the window starts and the bits of the six numbers. The blocks and
 // the answers of the given Rust to them, the files `stdin` and `stdout`, are made by tests/vectors/interp.py.
+
+#![tactic(auto)]
+
 ghost use Rattle.std.specs.Prelude.{◌+◌, ◌*◌, ◌≤◌, length};
 
 // The bits of x in 16 hexadecimal digits, after a space. A NaN has no bits of its own.

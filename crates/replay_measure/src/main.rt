@@ -4,6 +4,9 @@
 // `indexed-forget` through its index too; `by-remember`, `by-forget`, `by-orient` and `by-open` (which asks nothing) with the table by value; `add`
 // takes KERNEL for a usage file and adds it up once a pass; `nothing` only goes through the questions. It
 // writes the sum of the answers, so that each has to be worked out, and ends at the first refusal. No contract can speak of what is written.
+
+#![tactic(auto)]
+
 ghost use Rattle.std.specs.Prelude.{◌≡◌, ◌+◌, ◌*◌, ◌<◌, ◌≤◌, length};
 ghost use Rattle.io.specs.Counts.{IsPrefixLen};
 ghost use Rattle.daf.specs.declared.Family.TheVariants.{Spk, Pck};
@@ -176,7 +179,7 @@ fn orient(kernel: &[u8], table: Table, asked: &[u8], passes: u64) -> State {
 // ---- with a lent table
 
 // What was added up so far: the remembered segment's number, or one that no table has; 1 once a question was refused, else 0; the sum.
-#[derive(Drop)]
+#[derive(Clone, Copy)]
 struct Sums {
     kept: usize,
     refused: u64,

@@ -4,6 +4,9 @@
 // cleared shows; and what a question results in with the count, with one more than the places, and with 4,097: the refusal's number, or 0.
 // Then, with the table by value, for each kernel that 256 places take and one that they don't: what its opening resulted in; what it remembers, 0 for
 // nothing; and what a question results in with that memory.
+
+#![tactic(auto)]
+
 ghost use Rattle.std.specs.Prelude.{◌≡◌, ◌≤◌, length};
 ghost use Rattle.daf.specs.declared.Family.TheVariants.{Spk};
 ghost use Rattle.spk.specs.declared.Memory.TheVariants.{Blank};

@@ -1,5 +1,8 @@
 // replay_statement FILES: replays stored usage files, and writes of each what `statement` writes. FILES is a run of blocks: four bytes with a length,
 // unsigned, little-endian, then a usage file of that length. tests/vectors/usage.py makes them, and tests/second their lines.
+
+#![tactic(auto)]
+
 ghost use Rattle.std.specs.Prelude.{◌+◌, ◌≤◌, length};
 
 use streams::Input;

@@ -1,5 +1,8 @@
 // replay_wide KERNEL QUESTIONS: what `ask` writes, of a kernel of up to 200,000 bytes. It stands for a host with large kernels: the comparison with the
 // Rust puts kernels of up to 4,096 segments through it.
+
+#![tactic(auto)]
+
 ghost use Rattle.std.specs.Prelude.{◌≤◌, ◌+◌, length};
 ghost use Rattle.streams.specs.Input.{input_limit};
 

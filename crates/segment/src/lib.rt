@@ -1,5 +1,8 @@
 // Segments: what a table keeps of one, the tests that a segment has to pass (refusal 9), and the evaluation of one segment on the kernel lent now.
 // A table may be forged: evaluation repeats the tests, and reads within the segment's own bounds only.
+
+#![tactic(auto)]
+
 ghost use Rattle.std.specs.Prelude.{◌≡◌, ℕ};
 ghost use Rattle.segment.specs.Kinds.{states_trailer};
 ghost use Rattle.segment.specs.Malformed.{judged};
@@ -17,7 +20,7 @@ use malformed::{find, segment_with, start_of};
 use refusal::Refusal;
 
 // What a segment's data are: each handled kind carries its own trailer numbers.
-#[derive(Drop)]
+#[derive(Clone, Copy)]
 pub enum Kind {
     Unsupported,
     Type2 {
@@ -43,7 +46,7 @@ pub enum Kind {
 }
 
 // The fields stand so that a copy of sixteen bytes at a time never cuts a pair that is read at once: the limits, INIT with INTLEN.
-#[derive(Drop)]
+#[derive(Clone, Copy)]
 pub struct Segment {
     pub target: i32,
     pub center: i32,
@@ -76,14 +79,14 @@ impl Segment {
 }
 
 // What a summary results in at the opening: its segment, unmarked, or refusal 9.
-#[derive(Drop)]
+#[derive(Clone, Copy)]
 pub enum Judged {
     Accepted(Segment),
     Malformed,
 }
 
 // What a segment gives: its state, and whether a record was stretched to the epoch.
-#[derive(Drop)]
+#[derive(Clone, Copy)]
 pub struct Valued {
     pub state: State,
     pub stretched: bool,
@@ -102,21 +105,21 @@ impl Valued {
 }
 
 // What evaluating a segment results in.
-#[derive(Drop)]
+#[derive(Clone, Copy)]
 pub enum Evaluated {
     State(Valued),
     Refused(Refusal),
 }
 
 // Where the record for an epoch starts, and whether it is stretched to the epoch.
-#[derive(Drop)]
+#[derive(Clone, Copy)]
 struct Place {
     byte: usize,
     stretched: bool,
 }
 
 // How a type's data are laid out: as those of a handled type, or otherwise.
-#[derive(Drop)]
+#[derive(Clone, Copy)]
 enum Form {
     Other,
     Two,
@@ -126,7 +129,7 @@ enum Form {
 }
 
 // The numbers that end a segment's data: INIT and INTLEN (0 where there are none), RSIZE or degree, and N.
-#[derive(Drop)]
+#[derive(Clone, Copy)]
 struct Trailer {
     init: f64,
     intlen: f64,
@@ -169,7 +172,7 @@ impl Trailer {
 }
 
 // What the tests of refusal 9 find: the kind that the trailer makes, or that one of them fails.
-#[derive(Drop)]
+#[derive(Clone, Copy)]
 enum Found {
     Kind(Kind),
     Malformed,

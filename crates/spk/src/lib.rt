@@ -1,4 +1,7 @@
 // Questions to an opened SPK: which segment answers, the memory, the chain, and the frame that a state is asked in.
+
+#![tactic(auto)]
+
 ghost use Rattle.std.specs.Prelude.{◌≡◌, ◌<◌};
 ghost use Rattle.daf.specs.declared.Family.TheVariants.{Spk};
 ghost use Rattle.segment.specs.Evaluating.{evaluated};
@@ -23,7 +26,7 @@ use table::{Choice, Table};
 
 // The state of a target about a center at an epoch. It goes from function to function as a struct: a signed number that is passed by
 // itself is read back from its bits at each call.
-#[derive(Drop)]
+#[derive(Clone, Copy)]
 pub struct Question {
     pub target: i32,
     pub center: i32,
@@ -31,14 +34,14 @@ pub struct Question {
 }
 
 // The segment that the last forward choice of a marked segment chose.
-#[derive(Drop)]
+#[derive(Clone, Copy)]
 pub enum Memory {
     Blank,
     Kept(usize),
 }
 
 // How a question was answered, with the number of the segment where one alone answers.
-#[derive(Drop)]
+#[derive(Clone, Copy)]
 pub enum Way {
     Same,
     Forward(u32),
@@ -48,21 +51,21 @@ pub enum Way {
 }
 
 // The frame that a state is asked in: none, so that it is given as it stands, or the one of this number.
-#[derive(Drop)]
+#[derive(Clone, Copy)]
 pub enum Wanted {
     AsItStands,
     In(i32),
 }
 
 // An answer: its way, and the state with the frame of its numbers and whether a record was stretched: six zeros that no segment gave where it is a refusal.
-#[derive(Drop)]
+#[derive(Clone, Copy)]
 pub struct Answer {
     pub way: Way,
     pub given: Given,
 }
 
 // An answer, with what is remembered after it.
-#[derive(Drop)]
+#[derive(Clone, Copy)]
 pub struct Asked {
     pub answer: Answer,
     pub memory: Memory,
@@ -215,7 +218,7 @@ impl Answer {
     }
 
     // The answer as the turn to a frame makes it: by the matrix, by its transpose, or 21.
-    fn turned_by_lem(self, turn: Turn, to: i32, rot: [[f64; 3]; 3]) -> Answer
+    fn turned_by(self, turn: Turn, to: i32, rot: [[f64; 3]; 3]) -> Answer
         ensures { result ≡ turned_by turn to rot self }
     {
         let way = self.way;
@@ -241,7 +244,7 @@ impl Answer {
         }
         let from = self.frame();
         let turn = from.turn(to);
-        self.turned_by_lem(turn, to, rot)
+        self.turned_by(turn, to, rot)
     }
 
     // The answer in the frame that it is asked in: the matrix `rot`, given row by row, turns J2000 to ECLIPJ2000.

@@ -1,4 +1,7 @@
 // Prints the statement of the usage file on standard input: a line for each supplier, then the total; or the refusal.
+
+#![tactic(auto)]
+
 use streams::Input;
 
 fn main() {

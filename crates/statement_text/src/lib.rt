@@ -1,4 +1,7 @@
 // The text of a usage statement, put into a buffer that the caller lends: from the bytes of a usage file to every byte of the output.
+
+#![tactic(auto)]
+
 ghost use Rattle.std.specs.Prelude.{◌≡◌, ◌+◌, ◌*◌, ◌≤◌, length};
 ghost use Rattle.lines.specs.Written.{Written};
 ghost use Rattle.tally.specs.Faults.{supplier_limit};

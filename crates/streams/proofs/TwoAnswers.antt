@@ -8,7 +8,7 @@ use types.Logic.{Logic}
 use contract.Monad.{Fun}
 use Rattle.promised.specs.Promised.{Determined}
 use Rattle.promised.proofs.Alike.{equal}
-use Rattle.streams.specs.contracts.too_long_lem as m-too-long
+use Rattle.streams.specs.contracts.too_long as m-too-long
 
 module _ {M : Type 1} {𝓤 : Ura M} (𝓛 : Logic 𝓤) (mem : Memory → SProp 𝓤) (run : Routine → Fun 𝓤) where
   pub two_too_long : Determined 𝓤 m-too-long.ended (m-too-long.clauses 𝓛 mem run)

@@ -1,12 +1,15 @@
 // What a program reads and writes: the files that its arguments name, standard input and output, and the error output.
 // No contract can speak of the bytes that come in or go out: these say only how much of a buffer was filled.
+
+#![tactic(auto)]
+
 ghost use Rattle.std.specs.Prelude.{◌≡◌, ◌≤◌, ltb, length};
 ghost use Rattle.streams.specs.Input.{Within, input_limit};
 
 use refusal::Refusal;
 
 // What reading results in: how many bytes, or that it failed, which a line on the error output then says.
-#[derive(Drop)]
+#[derive(Clone, Copy)]
 pub enum Input {
     Bytes(usize),
     Unreadable,
@@ -19,7 +22,7 @@ pub const LIMIT: usize = 65536;
 pub const ROOM: usize = LIMIT + 1;
 
 // A program's input of this length is over the limit (18).
-pub fn too_long_lem(n: usize) -> bool
+pub fn too_long(n: usize) -> bool
     ensures { result ≡ ltb input_limit n }
 {
     LIMIT < n

@@ -1,6 +1,8 @@
 // 6 by 6 matrices of states, and the sums and products of 3 by 3 ones that make them. A matrix is given row by row, as an array of arrays by value.
 // The Rust's loops over 3 or 6 places are written out: the operations and their order stay.
 
+#![tactic(auto)]
+
 ghost use Rattle.std.specs.Prelude.{◌≡◌};
 ghost use Rattle.sxform.specs.Sxform.{product_of, sum_of, sxform_of, inverse_of, applied_state};
 ghost use Rattle.sxform.specs.Steps.{row_times, times_state};

@@ -1,4 +1,7 @@
 // The segment table by value, and what the scans over a table's segments go by: the choice of one, the marks.
+
+#![tactic(auto)]
+
 ghost use Rattle.std.specs.Prelude.{◌≡◌, not, ◌||◌};
 ghost use Rattle.table.specs.Segments.{empty_segment, is_covering, meets, same_pair, overlaps, with_mark};
 ghost use Rattle.table.specs.Places.{limit_of, empty_table};
@@ -9,7 +12,7 @@ ghost use Rattle.table.specs.Marks.{rivals};
 use segment::Segment;
 
 // The segments of an opened kernel, in file order: those below the count.
-#[derive(Drop)]
+#[derive(Clone, Copy)]
 pub struct Table {
     pub segments: [Segment; Table::PLACES],
     pub count: usize,
@@ -34,7 +37,7 @@ impl Table {
 }
 
 // The segment that was chosen, by its number, or that there is none.
-#[derive(Drop)]
+#[derive(Clone, Copy)]
 pub enum Choice {
     At(usize),
     Nothing,

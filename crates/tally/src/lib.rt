@@ -1,4 +1,7 @@
 // Usage files: how often each supplier is named. One pass over the file keeps the suppliers in order of number, each with its count.
+
+#![tactic(auto)]
+
 ghost use Rattle.std.specs.Prelude.{◌≡◌, ◌+◌, ◌*◌, ◌≤◌, ◌<◌, length};
 ghost use Rattle.tally.specs.Usage.{usage_size, supplier_at, suppliers_of};
 ghost use Rattle.tally.specs.Faults.{supplier_limit};
@@ -20,14 +23,14 @@ const MARK: Mark = Mark {
 };
 
 // Whether a file was stated, or the refusal.
-#[derive(Drop)]
+#[derive(Clone, Copy)]
 pub enum Outcome {
     Stated,
     Refused(Refusal),
 }
 
 // The statement of a usage file.
-#[derive(Drop)]
+#[derive(Clone, Copy)]
 pub struct Statement {
     pub outcome: Outcome,
     // the suppliers in order of number, then zeros

@@ -27,18 +27,18 @@ returns c =
     sym
     (sym (walk_twice _ _)
     ∙ c.before.before.before.loop.invariant.2
-    ∙ counting_past _ _ _ _ c.before.before.loop-test.true (sym c.before.past_end_lem.ensures ∙ c.if1.true))
+    ∙ counting_past _ _ _ _ c.before.before.loop-test.true (sym c.before.past_end.ensures ∙ c.if1.true))
 
 returns-2 : tie.Need-returns-2 invariant-loop decreases-loop
 returns-2 c =
     sym
     (sym (walk_twice _ _)
     ∙ c.before.before.before.before.loop.invariant.2
-    ∙ counting_full _ _ _ _ (omega arith) c.before.before.before.loop-test.true (sym c.before.before.past_end_lem.ensures ∙ c.before.if1.false))
+    ∙ counting_full _ _ _ _ (omega arith) c.before.before.before.loop-test.true (sym c.before.before.past_end.ensures ∙ c.before.if1.false))
 
 next-record-requires : tie.Need-next-record-requires invariant-loop decreases-loop
 next-record-requires c κs =
-    readable c.before.before.before.before.before.before.args.kernel.now c.before.before.before.before.loop.r c.before.before.before.loop-test.true (sym c.before.before.past_end_lem.ensures ∙ c.before.if1.false)
+    readable c.before.before.before.before.before.before.args.kernel.now c.before.before.before.before.loop.r c.before.before.before.loop-test.true (sym c.before.before.past_end.ensures ∙ c.before.if1.false)
 
 add-n : tie.Need-overflow-add-n invariant-loop decreases-loop
 add-n c = omega arith
@@ -52,7 +52,7 @@ loop-again c = (
   omega arith,
   c.before.before.before.before.before.loop.invariant.2
       ∙ counting_next _ _ _ _ _ (omega arith) c.before.before.before.before.loop-test.true
-      (sym c.before.before.before.past_end_lem.ensures ∙ c.before.before.if1.false) c.next-record.ensures,
+      (sym c.before.before.before.past_end.ensures ∙ c.before.before.if1.false) c.next-record.ensures,
 )
 
 returns-3 : tie.Need-returns-3 invariant-loop decreases-loop

@@ -16,7 +16,7 @@ put-text-requires c κs =
     let i = c.before in
     let t = i.before in
     let s = t.before.before.before in
-    omega (arith, room_most s.args.kernel.now (sym t.too_long_lem.ensures ∙ i.if1.false))
+    omega (arith, room_most s.args.kernel.now (sym t.too_long.ensures ∙ i.if1.false))
 
 returns : tie.Need-returns
 returns c =
@@ -25,7 +25,7 @@ returns c =
     let t = i.before in
     let s = t.before.before.before in (
       subst (λ (l : List ℕ). Written s.args.out.now 0 l p.put-refusal.new.0 p.put-refusal.result)
-          (sym (output_text s.args.kernel.now true (sym t.too_long_lem.ensures ∙ i.if1.true))) p.put-refusal.ensures.0,
+          (sym (output_text s.args.kernel.now true (sym t.too_long.ensures ∙ i.if1.true))) p.put-refusal.ensures.0,
       omega (arith, p.put-refusal.ensures.1),
     )
 
@@ -36,8 +36,8 @@ returns-2 c =
     let t = i.before in
     let s = t.before.before.before in (
       subst (λ (l : List ℕ). Written s.args.out.now 0 l p.put-text.new.0 p.put-text.result)
-          (sym (output_text s.args.kernel.now false (sym t.too_long_lem.ensures ∙ i.if1.false))) p.put-text.ensures.0,
-      omega (arith, p.put-text.ensures.1, room_most s.args.kernel.now (sym t.too_long_lem.ensures ∙ i.if1.false)),
+          (sym (output_text s.args.kernel.now false (sym t.too_long.ensures ∙ i.if1.false))) p.put-text.ensures.0,
+      omega (arith, p.put-text.ensures.1, room_most s.args.kernel.now (sym t.too_long.ensures ∙ i.if1.false)),
     )
 
 -- ---- by search

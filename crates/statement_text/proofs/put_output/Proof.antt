@@ -17,7 +17,7 @@ returns c =
     let t = i.before in
     let s = t.before.before.before in (
       subst (λ (l : List ℕ). Written s.args.out.now 0 l p.put-refusal.new.0 p.put-refusal.result)
-          (sym (program_text_lem s.args.file.now true (sym t.too_long_lem.ensures ∙ i.if1.true))) p.put-refusal.ensures.0,
+          (sym (program_text_lem s.args.file.now true (sym t.too_long.ensures ∙ i.if1.true))) p.put-refusal.ensures.0,
       omega (arith, p.put-refusal.ensures.1),
     )
 
@@ -28,7 +28,7 @@ returns-2 c =
     let t = i.before in
     let s = t.before.before.before in (
       subst (λ (l : List ℕ). Written s.args.out.now 0 l p.put-statement.new.0 p.put-statement.result)
-          (sym (program_text_lem s.args.file.now false (sym t.too_long_lem.ensures ∙ i.if1.false))) p.put-statement.ensures.0,
+          (sym (program_text_lem s.args.file.now false (sym t.too_long.ensures ∙ i.if1.false))) p.put-statement.ensures.0,
       p.put-statement.ensures.1,
     )
 

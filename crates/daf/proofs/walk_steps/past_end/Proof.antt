@@ -1,8 +1,8 @@
 -- `daf::past_end` meets its contract: where the name record ends in the kernel, so does the summary record before it. Assumes nothing.
 use Rattle.daf.proofs.Walking.{past_end_lem}
 use borrow.Author.Rules.{rules}
-use Rattle.daf.proofs.walk_steps.past_end_lem.Statement.{statement}
-use Rattle.daf.proofs.walk_steps.past_end_lem.Tie as tie
+use Rattle.daf.proofs.walk_steps.past_end.Statement.{statement}
+use Rattle.daf.proofs.walk_steps.past_end.Tie as tie
 
 add-result : tie.Need-overflow-add-result
 add-result c = search rules

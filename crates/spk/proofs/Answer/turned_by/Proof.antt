@@ -10,8 +10,8 @@ use Rattle.chain.specs.declared.Yielded.TheVariants as yielded
 use Rattle.spk.specs.Answers.{settled}
 use Rattle.spk.proofs.Single.{by_stands, by_forth, by_back, by_never}
 use borrow.Author.Rules.{rules}
-use Rattle.spk.proofs.Answer.turned_by_lem.Statement.{statement}
-use Rattle.spk.proofs.Answer.turned_by_lem.Tie as tie
+use Rattle.spk.proofs.Answer.turned_by.Statement.{statement}
+use Rattle.spk.proofs.Answer.turned_by.Tie as tie
 
 enum_told : tie.Need-enum-told
 enum_told c = search rules

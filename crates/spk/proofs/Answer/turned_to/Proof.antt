@@ -31,7 +31,7 @@ returns-2 : tie.Need-returns-2
 returns-2 c =
     let a = c.before.before.before.before.before.args in
     let same = to_z-of_z w32 a.to (search rules) in
-    c.turned_by_lem.ensures
+    c.turned_by.ensures
     ∙ ap₂ (λ (t : Turn) (z : ℤ). turned_by t z a.rot a.self) (c.before.turn.ensures ∙ ap₂ turn_of c.before.before.frame.ensures same) same
     ∙ sym (turned_by_lem a.to a.rot a.self false (sym c.before.before.before.before.is-refused.ensures ∙ c.before.before.before.if1.false))
 
