@@ -47,7 +47,7 @@ long_where kernel file w =
     or_true false = refl
 
 pub short_where : (kernel file : List ℕ) → Short kernel file → too_long kernel file ≡ false
-short_where kernel file s = rw (le-ltb input_limit (length kernel) s.kernel-fits, le-ltb input_limit (length file) s.file-fits)
+short_where kernel file s = rw (le-ltb input_limit (length kernel) s.kernel_fits, le-ltb input_limit (length file) s.file_fits)
 
 -- by the two tests
 pub by_length : (kernel file : List ℕ) → When18 kernel file ⊎ Short kernel file

@@ -53,12 +53,12 @@ module _ (kernel file matrix : List ℕ) where
       (λ w. by_test_lem (ltb input_limit (length matrix)) over_matrix (λ e. over_others e (long_where kernel file w)))
 
   short : AllShort kernel file matrix → (b : Bool) → eqb (length matrix) matrix_size ≡ b → matrix_for kernel file matrix ≡ cond b Taken Unfit
-  short s b = by_size b (le-ltb input_limit (length matrix) s.matrix-fits) (short_where kernel file (record { kernel_fits = s.kernel-fits; file_fits = s.file-fits }))
+  short s b = by_size b (le-ltb input_limit (length matrix) s.matrix_fits) (short_where kernel file (record { kernel_fits = s.kernel_fits; file_fits = s.file_fits }))
 
   either : MatrixLong kernel file matrix ⊎ AllShort kernel file matrix
   either =
       by_test_lem (ltb input_limit (length matrix)) (λ a. inl (inl (ltb-true input_limit (length matrix) a)))
-      (λ a. ⊎_elim (λ w. inl (inr w)) (λ s. inr (record { kernel_fits = s.kernel-fits; file_fits = s.file-fits; matrix_fits = ltb-false input_limit (length matrix) a })) (by_length kernel file))
+      (λ a. ⊎_elim (λ w. inl (inr w)) (λ s. inr (record { kernel_fits = s.kernel_fits; file_fits = s.file_fits; matrix_fits = ltb-false input_limit (length matrix) a })) (by_length kernel file))
 
   -- **exactly-when**, 18 of a run with a matrix file: one of the three files is over the limit
   pub matrix_18 : MatrixLong kernel file matrix ↔ (matrix_for kernel file matrix ≡ TooLong)

@@ -10,7 +10,7 @@ use lib.Dec.{ltb}
 use lib.IntN.{pos, neg_ℤ}
 use lib.ListN.{length, get_or, take, drop, length-drop, drop_of_length-le}
 use lib.Seq.{drop-cons, take_all}
-use borrow.Author.Tests.{eq-eqb, ne_eqb, lt-ltb, le-ltb, ltb-true, ltb-false, not_true}
+use borrow.Author.Tests.{eq-eqb, ne_eqb, lt-ltb, le-ltb, ltb-true, ltb-false, not-true}
 use Rattle.bits.specs.Bytes.{signed32}
 use Rattle.bits.proofs.Tests.{and_no, and_both, and_first, and_second}
 use Rattle.ask_text.specs.declared.Digits.{Digits}
@@ -129,7 +129,7 @@ Small NoValue = Unit {0}
 
 pub digits_small : (text : List ℕ) (v : ℕ) → digits_in text ≡ Value v → v ≤ largest
 unfolding digits_in Small
-digits_small text v e = subst Small e (small _ (λ t. ltb-false largest (value_after 0 text) (not_true _ (and_second (is_numeral text) _ t))))
+digits_small text v e = subst Small e (small _ (λ t. ltb-false largest (value_after 0 text) (not-true _ (and_second (is_numeral text) _ t))))
   where
     small : (b : Bool) → (b ≡ true → value_after 0 text ≤ largest) → Small (cond b (Value (value_after 0 text)) NoValue)
     small true h = h refl

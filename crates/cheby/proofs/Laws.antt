@@ -67,8 +67,8 @@ module _ (kernel : List ℕ) (q n : ℕ) (s : Float) where
       → Summed kernel q n s (suc j) r
   turned_summed j ek ec h er =
       let t = T-turn s j h.before h.last in
-      let d = T'-turn s j h.last h.rate-before h.rate-last in
-      rw er (record { before = h.last; last = t; rate_before = h.rate-last; rate_last = d; value = values_turn j ek t ec h.value refl; slope = slopes_turn j ek d ec h.slope refl })
+      let d = T'-turn s j h.last h.rate_before h.rate_last in
+      rw er (record { before = h.last; last = t; rate_before = h.rate_last; rate_last = d; value = values_turn j ek t ec h.value refl; slope = slopes_turn j ek d ec h.slope refl })
 
 -- of six series
 module _ (kernel : List ℕ) (p q n : ℕ) (s : Float) where

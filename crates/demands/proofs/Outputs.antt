@@ -246,7 +246,7 @@ ask_output_lem kernel file turned matrix frame = (
     text = ask.short_output kernel file turned matrix (frame_named frame)
 
     all_short : AllShort kernel file matrix → (ltb input_limit (length matrix) || too_long kernel file) ≡ false
-    all_short s = or_none _ _ (le-ltb input_limit (length matrix) s.matrix-fits) (neither_long kernel file s.kernel-fits s.file-fits)
+    all_short s = or_none _ _ (le-ltb input_limit (length matrix) s.matrix_fits) (neither_long kernel file s.kernel_fits s.file_fits)
 
     fitted : (b : Bool) → ask.unfit turned matrix (frame_named frame) ≡ b → text ≡ cond b [] (ask.ask_text kernel file matrix (frame_number (frame_named frame)))
     fitted b e = ap (λ (u : Bool). cond u [] (ask.ask_text kernel file matrix (frame_number (frame_named frame)))) e

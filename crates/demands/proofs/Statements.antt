@@ -5,7 +5,7 @@ use mathlib.Core.Bool.{Bool, true, false, cond}
 use mathlib.Core.List.{List, [], ◌∷◌, ◌++◌, map, append_assoc, append-nil}
 use native.Mathlib.Omega.{arith}
 use lib.Dec.{ltb}
-use lib.ListN.{length, get_or, length_map}
+use lib.ListN.{length, get_or, length-map}
 use borrow.Author.Tests.{lt-ltb, le-ltb, ltb-true}
 use Rattle.refusal.specs.declared.Refusal.TheVariants.{TooManySuppliers}
 use Rattle.tally.specs.declared.Statement.{Statement}
@@ -33,7 +33,7 @@ payee_at : (file : List ℕ) (k : ℕ) → payee file k ≡ get_or (suppliers_of
 payee_at file k = ap (λ (l : List ℕ). get_or l k 0) (suppliers_of_lines file (records_in file) (suppliers_of file (records_in file)))
 
 many_lines : (file : List ℕ) → length (lines_in file) ≡ length (suppliers_of file (records_in file))
-many_lines file = length_map (suppliers_of file (records_in file)) (line_of file (records_in file))
+many_lines file = length-map (suppliers_of file (records_in file)) (line_of file (records_in file))
 
 due_at : (file : List ℕ) (k : ℕ) → k < length (lines_in file) → due file k ≡ count_of file (records_in file) (payee file k)
 due_at file k h =

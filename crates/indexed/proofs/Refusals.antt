@@ -169,7 +169,7 @@ module _ (limit : ℕ) (ev : Evaluation) (owns : OwnOnly ev) (segs : List Segmen
   settled_both f c r h =
       ⊎_elim (λ e. (c.numbers r e, settled_refused _ _ r e))
       (λ e. (let z = ap number_of e.3 in (omega arith, omega arith), settled_state _ _ e.0 false e.1 e.2 ∙ ap refused_answer e.3))
-      (settled_why f.way f.result r c.open-way h)
+      (settled_why f.way f.result r c.open_way h)
 
   early_both : (r : Refusal) → (early_answer limit n q).way ≡ ways.Refused r → Both (early_answer limit n q) r
   unfolding early_answer same_answer

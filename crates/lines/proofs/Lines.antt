@@ -7,7 +7,7 @@ use mathlib.Core.Bool.{Bool, true, false, cond, not, ◌&&◌}
 use mathlib.Core.List.{List, [], ◌∷◌, ◌++◌, append-nil}
 use Prim.Native.Nat.{ℕ, zero, suc, ◌+◌, ◌/◌, ◌%◌, ◌<◌}
 use native.Mathlib.Omega.{arith}
-use borrow.Author.Tests.{ne_eqb, not_true}
+use borrow.Author.Tests.{ne_eqb, not-true}
 use lib.Dec.{ltb, eqb}
 use lib.IntN.{ℤ, pos, negsuc}
 use lib.Ieee.{Float, binary64, to_bits}
@@ -37,7 +37,7 @@ plainly (c ∷ cs) = not (eqb c newline) && plainly cs
 pub word : (t : List ℕ) → plainly t ≡ true → Plain t
 word [] e = none
 word (c ∷ cs) e =
-    one c (not_true (eqb c newline) (and_first (not (eqb c newline)) (plainly cs) e)) (word cs (and_second (not (eqb c newline)) (plainly cs) e))
+    one c (not-true (eqb c newline) (and_first (not (eqb c newline)) (plainly cs) e)) (word cs (and_second (not (eqb c newline)) (plainly cs) e))
 
 -- a text whose only newline is its end: the lines of a text that begins with it are it and those of the rest
 pub record OneLine (l : List ℕ) : Type 0 where

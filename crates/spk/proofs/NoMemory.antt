@@ -17,7 +17,7 @@ use mathlib.Core.Bool.{Bool, true, false, not, cond, ◌&&◌, true≢false}
 use mathlib.Core.List.{List, [], ◌∷◌, map}
 use Prim.Native.Nat.{ℕ, zero, suc, ◌<◌}
 use native.Mathlib.Nat.{not-suc-le-zero, le_of_suc-le-suc, eq-or-lt_of_le}
-use borrow.Author.Tests.{ltb-true, ne_eqb, not_true}
+use borrow.Author.Tests.{ltb-true, ne_eqb, not-true}
 use lib.Dec.{ltb, eqb}
 use lib.Ieee.{le, is_nan}
 use Rattle.bits.specs.Same.{same_z}
@@ -94,7 +94,7 @@ module _ (segs : List Segment) (n : ℕ) (right : MarkedRight segs n) where
       (sym
       (others_found segs (seg segs i) i j n b ne
       (hits_overlap (seg segs i) (seg segs j) q (and_second (seg segs i).marked (hits q (seg segs i)) s) e))
-      ∙ not_true _ (sym (right i h) ∙ and_first (seg segs i).marked (hits q (seg segs i)) s))))
+      ∙ not-true _ (sym (right i h) ∙ and_first (seg segs i).marked (hits q (seg segs i)) s))))
       (λ e. e)
 
   -- the forward choice with any memory is the pair's last covering segment

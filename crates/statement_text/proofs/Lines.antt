@@ -7,7 +7,7 @@ use Prim.Native.Nat.{ℕ, zero, suc, ◌+◌, ◌≤◌, ◌<◌}
 use native.Mathlib.Numerals.{add-one}
 use native.Mathlib.Omega.{arith}
 use lib.Dec.{ltb}
-use lib.ListN.{length, get_or, take, length_map, get_or-append, get_or-map}
+use lib.ListN.{length, get_or, take, length-map, get_or-append, get_or-map}
 use lib.Seq.{take-suc, take-length}
 use Rattle.refusal.specs.declared.Refusal.{Refusal}
 use Rattle.refusal.specs.declared.Refusal.TheVariants.{InputTooLong}
@@ -43,7 +43,7 @@ lines_next suppliers counts i =
 of_line : (f : Line → ℕ) (ls : List Line) (k : ℕ) → f (record { supplier = 0; count = 0 }) ≡ 0 → k < length ls
     → get_or (padded (map f ls)) k 0 ≡ f (get_or ls k (record { supplier = 0; count = 0 }))
 of_line f ls k z h =
-    get_or-append (map f ls) _ 0 k (omega (arith, length_map ls f))
+    get_or-append (map f ls) _ 0 k (omega (arith, length-map ls f))
     ∙ ap (get_or (map f ls) k) (sym z)
     ∙ get_or-map f ls k (record { supplier = 0; count = 0 })
 
@@ -110,7 +110,7 @@ module _ (file : List ℕ) where
       omega (
         arith,
         ap (λ (t : Statement). t.known) (e ∙ both.0),
-        length_map (suppliers_of file (records_in file)) (line_of file (records_in file)),
+        length-map (suppliers_of file (records_in file)) (line_of file (records_in file)),
         (stated_only file (ap (λ (t : Statement). outcome_number t.outcome) both.0)).sound.few,
       )
 

@@ -7,7 +7,7 @@ use Prim.Native.Nat.{ℕ, zero, suc, ◌+◌, ◌-◌, ◌*◌, ◌/◌, ◌%◌
 use native.Mathlib.Nat.{le_antisymm}
 use native.Mathlib.Omega.{arith}
 use lib.Dec.{ltb, eqb}
-use lib.ListN.{length, get_or, length-append, length_map, get_or-append}
+use lib.ListN.{length, get_or, length-append, length-map, get_or-append}
 use lib.Seq.{get_or-append-add}
 use borrow.Author.Tests.{lt-ltb, le-ltb, ltb-true, ltb-false, eqb-true}
 use Rattle.bits.proofs.Tests.{by_test_lem}
@@ -141,7 +141,7 @@ pub fit_lines : (file : List ℕ) → Fit file
     statement_of file ≡ cond (ltb supplier_limit (length lines)) (refused_statement TooManySuppliers) (stated lines (records_in file))
 fit_lines file h =
     fit_statement file h
-    ∙ ap (λ (k : ℕ). cond (ltb supplier_limit k) (refused_statement TooManySuppliers) (answer file)) (sym (length_map (suppliers_of file (records_in file)) (line_of file (records_in file))))
+    ∙ ap (λ (k : ℕ). cond (ltb supplier_limit k) (refused_statement TooManySuppliers) (answer file)) (sym (length-map (suppliers_of file (records_in file)) (line_of file (records_in file))))
 
 module _ (a b : List ℕ) (fa : Fit a) (fb : Fit b) where
   pub fit_both : Fit (a ++ b)

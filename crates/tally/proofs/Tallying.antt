@@ -6,7 +6,7 @@ use native.Mathlib.Nat.{le_antisymm}
 use native.Mathlib.Numerals.{add-one}
 use native.Mathlib.Omega.{arith}
 use lib.Dec.{ltb}
-use lib.ListN.{length, get_or, take, drop, set, replicate, length-append, length-replicate, length_map, length-set, length-drop, get_or-append}
+use lib.ListN.{length, get_or, take, drop, set, replicate, length-append, length-replicate, length-map, length-set, length-drop, get_or-append}
 use lib.Seq.{take-append-le, take_at, drop-append-add, set-append_left, length-take-le}
 use borrow.Author.Tests.{ltb-true, ltb-false}
 use Rattle.bits.proofs.Tests.{by_test_lem}
@@ -78,14 +78,14 @@ module _ (file : List ℕ) (n : ℕ) (suppliers counts : List ℕ) (known : ℕ)
   pub tallied_places : (length suppliers ≡ supplier_limit) × (length counts ≡ supplier_limit)
   tallied_places = (
     ap length h.named ∙ length_padded (suppliers_of file n) few,
-    ap length h.counted ∙ length_padded (map (count_of file n) (suppliers_of file n)) (omega (arith, length_map (suppliers_of file n) (count_of file n), few)),
+    ap length h.counted ∙ length_padded (map (count_of file n) (suppliers_of file n)) (omega (arith, length-map (suppliers_of file n) (count_of file n), few)),
   )
 
   -- the count of a known supplier
   pub tallied_count : (p : ℕ) → p < known → get_or counts p 0 ≡ count_of file n (get_or suppliers p 0)
   tallied_count p b =
       ap (λ (t : List ℕ). get_or t p 0) h.counted
-      ∙ get_d_padded (map (count_of file n) (suppliers_of file n)) p (omega (arith, length_map (suppliers_of file n) (count_of file n), h.many))
+      ∙ get_d_padded (map (count_of file n) (suppliers_of file n)) p (omega (arith, length-map (suppliers_of file n) (count_of file n), h.many))
       ∙ get_d_mapped (count_of file n) (suppliers_of file n) p (omega (arith, h.many))
       ∙ ap (count_of file n) (sym (here p b))
 
@@ -109,7 +109,7 @@ module _ (file : List ℕ) (n : ℕ) (suppliers counts : List ℕ) (known : ℕ)
         named = h.named ∙ ap padded (sym same);
         counted =
             ap₂ (λ (t : List ℕ) (v : ℕ). set t p v) h.counted one_more
-            ∙ set_padded (map (count_of file n) (suppliers_of file n)) p (suc (count_of file n (supplier_at file n))) (omega (arith, length_map (suppliers_of file n) (count_of file n), h.many))
+            ∙ set_padded (map (count_of file n) (suppliers_of file n)) p (suc (count_of file n (supplier_at file n))) (omega (arith, length-map (suppliers_of file n) (count_of file n), h.many))
             ∙ ap padded
             (sym (counts_there (supplier_at file n) (count_of file n) (count_of file (suc n)) (counted_one file n) (counted_other file n) (suppliers_of file n) p (suppliers_rise file n) (omega (arith, h.many)) there)
             ∙ ap (map (count_of file (suc n))) (sym same));
@@ -165,7 +165,7 @@ module _ (file : List ℕ) (n : ℕ) (suppliers counts : List ℕ) (known : ℕ)
               ∙ ap padded (sym put);
           counted =
               ap (λ (t : List ℕ). put_in t known p 1) h.counted
-              ∙ put_padded (map (count_of file n) (suppliers_of file n)) known p 1 (h.many ∙ sym (length_map (suppliers_of file n) (count_of file n))) place.within r
+              ∙ put_padded (map (count_of file n) (suppliers_of file n)) known p 1 (h.many ∙ sym (length-map (suppliers_of file n) (count_of file n))) place.within r
               ∙ ap padded
               (sym (counts_new (supplier_at file n) (count_of file n) (count_of file (suc n)) (counted_one file n) (counted_other file n) (suppliers_of file n) p (omega (arith, place.within, h.many)) apart (never_named file n (supplier_at file n) apart))
               ∙ ap (map (count_of file (suc n))) (sym put));

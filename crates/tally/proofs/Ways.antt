@@ -6,7 +6,7 @@ use Prim.Native.Nat.{ℕ, suc, ◌+◌, ◌-◌, ◌%◌, ◌≤◌, ◌<◌}
 use native.Mathlib.Numerals.{add-one}
 use native.Mathlib.Omega.{arith}
 use lib.Dec.{ltb}
-use lib.ListN.{length, replicate, length_map}
+use lib.ListN.{length, replicate, length-map}
 use borrow.Author.Tests.{lt-ltb, le-ltb, eq-eqb, ne_eqb}
 use Rattle.refusal.specs.declared.Refusal.TheVariants.{BadRecord, TooManySuppliers}
 use Rattle.refusal.specs.Order.{first_of}
@@ -95,7 +95,7 @@ tallied_none file = record { few = omega arith; many = refl; named = refl; count
 -- what is tallied at the end is the statement
 pub tallied_all : (file : List ℕ) (suppliers counts : List ℕ) (known : ℕ) → Tallied file (records_in file) suppliers counts known
     → record { outcome = Stated; suppliers = suppliers; counts = counts; known = known; total = records_in file } ≡ answer file
-tallied_all file suppliers counts known h = made named counted (h.many ∙ sym (length_map (suppliers_of file (records_in file)) (line_of file (records_in file))))
+tallied_all file suppliers counts known h = made named counted (h.many ∙ sym (length-map (suppliers_of file (records_in file)) (line_of file (records_in file))))
   where
     named : suppliers ≡ padded (map (λ (x : Line). x.supplier) (lines_of file (records_in file)))
     named = h.named ∙ ap padded (sym (suppliers_of_lines file (records_in file) (suppliers_of file (records_in file))))

@@ -5,7 +5,7 @@ use mathlib.Core.Bool.{true}
 use lib.ListN.{length, get_or}
 use native.Mathlib.Omega.{arith}
 use borrow.Author.Rules.{rules}
-use borrow.Author.Tests.{not_true, not-false}
+use borrow.Author.Tests.{not-true, not-false}
 use Rattle.ask_text.proofs.FrameTexts.{Reading, reading_none, reading_next, digit_bounds, no_digit, over, none_read, all_read}
 use Rattle.ask_text.specs.FrameText.{is_digit}
 use Rattle.ask_text.proofs.digits_in.Statement.{statement}
@@ -29,7 +29,7 @@ is-digit-requires c κs = search rules
 returns : tie.Need-returns invariant-loop decreases-loop
 returns c =
     let l = c.before.before.before in
-    sym (no_digit _ _ _ l.before.loop.invariant l.loop-test.true (sym c.before.is_digit.ensures ∙ not_true _ c.if1.true))
+    sym (no_digit _ _ _ l.before.loop.invariant l.loop-test.true (sym c.before.is_digit.ensures ∙ not-true _ c.if1.true))
 
 -- the code at i is a digit
 module _ (c : tie.Else1 invariant-loop decreases-loop) where

@@ -4,7 +4,7 @@ use mathlib.Core.Bool.{Bool, not, ◌&&◌, ◌||◌}
 use lib.Dec.{eqb}
 use lib.ListN.{length}
 use borrow.Author.Rules.{rules}
-use borrow.Author.Tests.{eq-eqb, ne_eqb, not_true, not-false}
+use borrow.Author.Tests.{eq-eqb, ne_eqb, not-true, not-false}
 use Rattle.bits.proofs.Tests.{and_both, and_no, or_left}
 use Rattle.admission.specs.Order.{matrix_size}
 use Rattle.ask_text.specs.FrameText.{is_none}
@@ -14,7 +14,7 @@ use Rattle.ask_text.proofs.is_unfit.Tie as tie
 returns : tie.Need-returns
 returns c =
     let a = c.before.before.args in
-    let no = not_true a.turned c.if1.true in
+    let no = not-true a.turned c.if1.true in
     sym (sym (and_no a.turned (not (eqb (length a.matrix.now) matrix_size) || is_none a.frame) no) ∙ no)
 
 returns-2 : tie.Need-returns-2

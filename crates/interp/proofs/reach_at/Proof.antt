@@ -1,7 +1,7 @@
 -- `interp::reach_at` meets its contract: the first epoch is at the states' end, the last n - 1 places after it. Assumes nothing.
 use mathlib.Core.Bool.{true, false}
 use Rattle.interp.proofs.Window.{before_first, from_first}
-use borrow.Author.Tests.{not_true, not-false}
+use borrow.Author.Tests.{not-true, not-false}
 use borrow.Author.Rules.{rules}
 use Rattle.interp.proofs.reach_at.Statement.{statement}
 use Rattle.interp.proofs.reach_at.Tie as tie
@@ -16,7 +16,7 @@ double-at-requires : tie.Need-double-at-requires
 double-at-requires c κs = search rules
 
 returns : tie.Need-returns
-returns c = before_first _ _ _ _ _ c.before.double-at.ensures (not_true _ c.if1.true)
+returns c = before_first _ _ _ _ _ c.before.double-at.ensures (not-true _ c.if1.true)
 
 mul-double-at-2 : tie.Need-overflow-mul-double-at-2
 mul-double-at-2 c = search rules

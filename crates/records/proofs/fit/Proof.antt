@@ -5,7 +5,7 @@ use Prim.Native.Nat.{ℕ, ◌-◌, ◌/◌, ◌≤◌}
 use native.Mathlib.Nat.{le_antisymm, div-le_self}
 use native.Mathlib.Omega.{arith}
 use lib.ListN.{length}
-use borrow.Author.Tests.{not_true, not-false}
+use borrow.Author.Tests.{not-true, not-false}
 use Rattle.records.specs.Records.{all_marked}
 use Rattle.records.proofs.Laws.{whole_record, one_more, one_less, cut_short_lem, whole_file}
 use Rattle.records.proofs.fit.Statement.{statement}
@@ -41,7 +41,7 @@ returns-2 c =
     let a = l.before.before.before.args in
     sym (whole_file a.size a.mark a.s.now false l.before.if1.false
     (one_less a.size a.mark a.s.now (length a.s.now / a.size) l.loop.i c.before.before.loop-test.true
-    (sym c.before.is-marked.ensures ∙ not_true c.before.is-marked.result c.if2.true)))
+    (sym c.before.is-marked.ensures ∙ not-true c.before.is-marked.result c.if2.true)))
 
 add-i : tie.Need-overflow-add-i invariant-loop decreases-loop
 add-i c = let a = c.before.before.before.before.before.before.args in omega (arith, div-le_self (length a.s.now) a.size)

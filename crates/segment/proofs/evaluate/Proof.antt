@@ -81,7 +81,7 @@ plainly-fits-requires : tie.Need-plainly-fits-requires
 plainly-fits-requires c κs = search rules
 
 start-of-requires : tie.Need-start-of-requires
-start-of-requires c κs = (fits-two c).placed.start-count
+start-of-requires c κs = (fits-two c).placed.start_count
 
 plain-place-requires : tie.Need-plain-place-requires
 plain-place-requires c κs = let r = (fits-two c.before).records in (rw c.start_of_lem.ensures.0 r.from, r.some, rw c.start_of_lem.ensures.0 r.within, (fits-two c.before).few)
@@ -140,7 +140,7 @@ plainly-fits-requires-2 : tie.Need-plainly-fits-requires-2
 plainly-fits-requires-2 c κs = search rules
 
 start-of-requires-2 : tie.Need-start-of-requires-2
-start-of-requires-2 c κs = (fits-three c).placed.start-count
+start-of-requires-2 c κs = (fits-three c).placed.start_count
 
 plain-place-requires-2 : tie.Need-plain-place-requires-2
 plain-place-requires-2 c κs = let r = (fits-three c.before).records in (rw c.start-of2.ensures.0 r.from, r.some, rw c.start-of2.ensures.0 r.within, (fits-three c.before).few)

@@ -6,7 +6,7 @@ use native.Mathlib.Nat.{le_antisymm}
 use native.Mathlib.Omega.{arith}
 use lib.ListN.{length}
 use borrow.Author.Rules.{rules}
-use borrow.Author.Tests.{not_true, not-false}
+use borrow.Author.Tests.{not-true, not-false}
 use Rattle.records.specs.Records.{is_marked}
 use Rattle.tally.specs.Usage.{usage_size, usage_mark, records_in}
 use Rattle.tally.specs.Statement.{statement_of}
@@ -41,7 +41,7 @@ returns c =
     let m = c.before.before in
     let l = m.before.before in
     c.refused.ensures
-    ∙ sym (l.loop.invariant.2 ∙ broken_here l.before.before.args.file.now l.loop.i m.before.loop-test.true (marked m false (not_true m.is-marked.result c.before.if1.true)))
+    ∙ sym (l.loop.invariant.2 ∙ broken_here l.before.before.args.file.now l.loop.i m.before.loop-test.true (marked m false (not-true m.is-marked.result c.before.if1.true)))
 
 count-record-requires : tie.Need-count-record-requires invariant-loop decreases-loop
 count-record-requires c κs =

@@ -32,7 +32,7 @@ returns-2 c =
     evaluated_unfit _ _ _ _ _ (sym c.before.before.before.unsupported.ensures ∙ c.before.before.if1.false) (sym c.before.unfit.ensures ∙ c.if2.true)
 
 start-of-requires : tie.Need-start-of-requires
-start-of-requires c κs = (fits-now c).0.start-count
+start-of-requires c κs = (fits-now c).0.start_count
 
 value-requires : tie.Need-value-requires
 value-requires c κs = rw c.start_of_lem.ensures.0 (fits-now c.before).1

@@ -54,13 +54,13 @@ returns-2 : tie.Need-returns-2
 returns-2 c = λ h. absurd (false≢true h)
 
 end-of-requires : tie.Need-end-of-requires
-end-of-requires c κs = (within c).end-count
+end-of-requires c κs = (within c).end_count
 
 add-len : tie.Need-overflow-add-len
 add-len c = search rules
 
 start-of-requires : tie.Need-start-of-requires
-start-of-requires c κs = (within c.before).start-count
+start-of-requires c κs = (within c.before).start_count
 
 sub-len : tie.Need-overflow-sub-len
 sub-len c = let p = within c.before.before in omega (arith, p.order, c.start_of_lem.ensures.0, c.before.end_of_lem.ensures.0)

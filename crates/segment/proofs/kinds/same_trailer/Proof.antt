@@ -1,6 +1,6 @@
 -- `segment::same_trailer` meets its contract: each test in its turn. Assumes nothing.
 use Rattle.segment.proofs.Tests.{and_second_of_4, and_third_of_4, and_last_of_4}
-use borrow.Author.Tests.{eq-eqb, ne_eqb, not_true, not-false}
+use borrow.Author.Tests.{eq-eqb, ne_eqb, not-true, not-false}
 use mathlib.Core.Path.{sym, ◌∙◌}
 use borrow.Author.Rules.{rules}
 use Rattle.segment.proofs.kinds.same_trailer.Statement.{statement}
@@ -10,7 +10,7 @@ same-bits-requires : tie.Need-same-bits-requires
 same-bits-requires c κs = search rules
 
 returns : tie.Need-returns
-returns c = simp (sym c.before.same-bits.ensures ∙ not_true _ c.if1.true)
+returns c = simp (sym c.before.same-bits.ensures ∙ not-true _ c.if1.true)
 
 same-bits-requires-2 : tie.Need-same-bits-requires-2
 same-bits-requires-2 c κs = search rules
@@ -18,7 +18,7 @@ same-bits-requires-2 c κs = search rules
 returns-2 : tie.Need-returns-2
 returns-2 c =
     and_second_of_4 _ _ _ _ (sym c.before.before.before.same-bits.ensures ∙ not-false _ c.before.before.if1.false)
-    (sym c.before.same-bits2.ensures ∙ not_true _ c.if2.true)
+    (sym c.before.same-bits2.ensures ∙ not-true _ c.if2.true)
 
 returns-3 : tie.Need-returns-3
 returns-3 c =

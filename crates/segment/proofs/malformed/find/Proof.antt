@@ -3,7 +3,7 @@ use mathlib.Core.Path.{◌≡◌, sym, ap, ◌∙◌}
 use mathlib.Core.Bool.{true, false}
 use native.Mathlib.Omega.{arith}
 use borrow.Author.Rules.{rules}
-use borrow.Author.Tests.{not_true, not-false}
+use borrow.Author.Tests.{not-true, not-false}
 use Rattle.daf.specs.Addresses.{whole_doubles}
 use Rattle.segment.specs.Kinds.{form_of, handled}
 use Rattle.segment.specs.Malformed.{limit_nan, misplaced}
@@ -47,7 +47,7 @@ handled-requires c κs = search rules
 returns-2 : tie.Need-returns-2
 returns-2 c =
     found_other _ _ _ (sym c.before.before.before.before.limit-nan.ensures ∙ c.before.before.before.if1.false)
-    (sym (c.before.handled.ensures ∙ ap handled c.before.before.form_of.ensures) ∙ not_true _ c.if2.true)
+    (sym (c.before.handled.ensures ∙ ap handled c.before.before.form_of.ensures) ∙ not-true _ c.if2.true)
 
 misplaced-requires : tie.Need-misplaced-requires
 misplaced-requires c κs = search rules
@@ -56,13 +56,13 @@ returns-3 : tie.Need-returns-3
 returns-3 c = found_misplaced _ _ _ (numbers c.before.before) (is-handled c.before.before) (sym c.before.misplaced.ensures ∙ c.if3.true)
 
 end-of-requires : tie.Need-end-of-requires
-end-of-requires c κs = (within c).end-count
+end-of-requires c κs = (within c).end_count
 
 add-len : tie.Need-overflow-add-len
 add-len c = search rules
 
 start-of-requires : tie.Need-start-of-requires
-start-of-requires c κs = (within c.before).start-count
+start-of-requires c κs = (within c.before).start_count
 
 sub-len : tie.Need-overflow-sub-len
 sub-len c = let p = within c.before.before in omega (arith, p.order, c.start_of_lem.ensures.0, c.before.end_of_lem.ensures.0)

@@ -1,0 +1,24 @@
+-- `cheby::row_clear` meets its contract: each field is what one call ensures, and the three doubles are among those that are known to be numbers.
+use Prim.Native.Nat.{◌+◌, ◌*◌}
+use native.Mathlib.Omega.{arith}
+use borrow.Author.Rules.{rules}
+use Rattle.cheby.proofs.Numbers.{clear_at}
+use Rattle.cheby.proofs.row_clear.Goals as goal
+
+pub clear_at-requires : goal.clear_at-requires
+clear_at-requires c =
+    
+    let args = c.args in
+    (omega arith, clear_at args.kernel.now args.p (3 * args.n) args.k _ c.requires.2 (omega arith) (omega arith))
+
+pub clear_at-requires-2 : goal.clear_at-requires-2
+clear_at-requires-2 c =
+    
+    let args = c.args in
+    (omega arith, clear_at args.kernel.now args.p (3 * args.n) (args.n + args.k) _ c.requires.2 (omega arith) (omega arith))
+
+pub clear_at-requires-3 : goal.clear_at-requires-3
+clear_at-requires-3 c =
+    
+    let args = c.args in
+    (omega arith, clear_at args.kernel.now args.p (3 * args.n) (2 * args.n + args.k) _ c.requires.2 (omega arith) (omega arith))
