@@ -31,6 +31,10 @@ pub window_inside : (s : List ℕ) (p n d : ℕ) (et : Float) → window_at s p 
 unfolding window_at
 window_inside s p n d et = start_inside _ (window_size d n) n (size_most d n)
 
+-- So its size c and its start w lie in a segment that has a record.
+pub window_fits : (s : List ℕ) (p n d : ℕ) (et : Float) {c w : ℕ} → c ≡ window_size d n → w ≡ window_at s p n d et → 1 ≤ n → (1 ≤ c) × (w + c ≤ n)
+window_fits s p n d et size start some = rw (start, size) (size_some d n some, window_inside s p n d et)
+
 -- ---- where et falls beside the epochs of a segment, by the two that are read
 
 module _ (s : List ℕ) (p n : ℕ) (et first : Float) (f : first ≡ double_at s (p + 48 * n)) where
