@@ -11,7 +11,5 @@ use Rattle.index.proofs.bucket_of.Goals as goal
 pub returns-clause-value : goal.returns-clause-value
 unfolding bucket_of
 returns-clause-value c =
-    let a = c.args in (
-      ap (λ (x : ℕ). x % a.m) ({- MISS -}c.Unsigned-of.ensures ∙ ap unsigned_of (to_z-of_z w32 a.body c.ranges.body)),
-      mod-lt _ c.requires,
-    )
+    let a = c.args in
+    ap (λ (x : ℕ). x % a.m) (c.unsigned_of.ensures ∙ ap unsigned_of (to_z-of_z w32 a.body c.ranges.body))
