@@ -1,6 +1,5 @@
 // The segment table as a slice that the caller lends, 0 to 4,096 places: the opening, the questions, the chain, a segment alone, orientations.
-// Rattle walks no function over such a slice by itself. Each one here is thin and proved by hand (proofs/*/Proof.antt): it reads or stores an
-// element whole, and leaves the rest to covered functions on values.
+// Each function is thin: it reads or stores an element whole, and leaves the rest to functions on values.
 
 #![tactic(auto)]
 
