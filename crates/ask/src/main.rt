@@ -11,97 +11,99 @@ use ask_text::FrameArgument;
 use streams::Input;
 
 // What the program takes, on the error output.
-fn explain() {
-    streams::complain(b"usage: ask KERNEL QUESTIONS [MATRIX [FRAME]]\n");
+fn explain(rt: &HostRuntime) {
+    streams::complain(rt, b"usage: ask KERNEL QUESTIONS [MATRIX [FRAME]]\n");
     streams::complain(
+        rt,
         b"KERNEL an SPK file, QUESTIONS records of 18 bytes (A5 5B, target, center, epoch), MATRIX nine doubles: J2000 to ECLIPJ2000, FRAME a number (17)\n",
     );
     streams::complain(
+        rt,
         b"writes a line for each question: its number, the way, six numbers in km and km/s as bits; or the refusal\n",
     );
 }
 
 // Writes the whole output, at once.
-fn print(kernel: &[u8], asked: &[u8], turned: bool, matrix: &[u8], frame: &[u8])
+fn print(rt: &HostRuntime, kernel: &[u8], asked: &[u8], turned: bool, matrix: &[u8], frame: &[u8])
     requires { length asked.now ≤ input_limit + 1 }
 {
     let mut out = [0u8; ask_text::ROOM];
     let end = ask_text::put_output(&mut out, kernel, asked, turned, matrix, frame);
-    streams::write(&out, end);
+    streams::write(rt, &out, end);
 }
 
 // The argument FRAME is no number: that is told on the error output.
-fn tell_frame(frame: &[u8]) {
+fn tell_frame(rt: &HostRuntime, frame: &[u8]) {
     let f = ask_text::frame_named(frame);
     if let FrameArgument::NoNumber = f {
-        streams::complain(b"FRAME: not a whole number of 32 bits\n");
+        streams::complain(rt, b"FRAME: not a whole number of 32 bits\n");
     }
 }
 
 // The same with a matrix file and FRAME. Where one of them is none the output is empty, and why is told on the error output.
-fn print_turned(kernel: &[u8], asked: &[u8], matrix: &[u8], frame: &[u8])
+fn print_turned(rt: &HostRuntime, kernel: &[u8], asked: &[u8], matrix: &[u8], frame: &[u8])
     requires { length asked.now ≤ input_limit + 1 }
 {
-    print(kernel, asked, true, matrix, frame);
+    print(rt, kernel, asked, true, matrix, frame);
     let m = admission::matrix_for(kernel, asked, matrix);
     match m {
         Matrix::TooLong => {}
-        Matrix::Unfit => streams::complain(b"MATRIX: not 72 bytes long\n"),
-        Matrix::Taken => tell_frame(frame),
+        Matrix::Unfit => streams::complain(rt, b"MATRIX: not 72 bytes long\n"),
+        Matrix::Taken => tell_frame(rt, frame),
     }
 }
 
 // Reads FRAME. One that is longer than the buffer is taken for the empty text, which is no number either.
-fn with_frame(kernel: &[u8], asked: &[u8], matrix: &[u8])
+fn with_frame(rt: &HostRuntime, kernel: &[u8], asked: &[u8], matrix: &[u8])
     requires { length asked.now ≤ input_limit + 1 }
 {
-    let mut text = io::buffer();
-    let n = os::arg(4, &mut text);
-    print_turned(kernel, asked, matrix, &text[..n]);
+    let mut text = [0u8; streams::ARGUMENT];
+    let n = streams::argument(rt, 4, &mut text).unwrap_or(0);
+    print_turned(rt, kernel, asked, matrix, &text[..n]);
 }
 
 // Reads the matrix.
-fn with_matrix(kernel: &[u8], asked: &[u8], framed: bool)
+fn with_matrix(rt: &HostRuntime, kernel: &[u8], asked: &[u8], framed: bool)
     requires { length asked.now ≤ input_limit + 1 }
 {
     let mut buf = [0u8; streams::ROOM];
-    let input = streams::read_argument(3, b"MATRIX", &mut buf);
+    let input = streams::read_argument(rt, 3, b"MATRIX", &mut buf);
     if let Input::Bytes(n) = input {
         if framed {
-            with_frame(kernel, asked, &buf[..n]);
+            with_frame(rt, kernel, asked, &buf[..n]);
         } else {
-            print_turned(kernel, asked, &buf[..n], b"17");
+            print_turned(rt, kernel, asked, &buf[..n], b"17");
         }
     }
 }
 
 // Reads the questions.
-fn with_questions(kernel: &[u8], turned: bool, framed: bool) {
+fn with_questions(rt: &HostRuntime, kernel: &[u8], turned: bool, framed: bool) {
     let mut buf = [0u8; streams::ROOM];
-    let input = streams::read_argument(2, b"QUESTIONS", &mut buf);
+    let input = streams::read_argument(rt, 2, b"QUESTIONS", &mut buf);
     if let Input::Bytes(n) = input {
         if turned {
-            with_matrix(kernel, &buf[..n], framed);
+            with_matrix(rt, kernel, &buf[..n], framed);
         } else {
-            print(kernel, &buf[..n], false, b"", b"17");
+            print(rt, kernel, &buf[..n], false, b"", b"17");
         }
     }
 }
 
 // Reads the kernel.
-fn with_kernel(turned: bool, framed: bool) {
+fn with_kernel(rt: &HostRuntime, turned: bool, framed: bool) {
     let mut buf = [0u8; streams::ROOM];
-    let input = streams::read_argument(1, b"KERNEL", &mut buf);
+    let input = streams::read_argument(rt, 1, b"KERNEL", &mut buf);
     if let Input::Bytes(n) = input {
-        with_questions(&buf[..n], turned, framed);
+        with_questions(rt, &buf[..n], turned, framed);
     }
 }
 
-fn main() {
-    let given = os::arg_count();
+fn main(rt: HostRuntime) {
+    let given = streams::argument_count(&rt);
     if 3 <= given && given <= 5 {
-        with_kernel(4 <= given, given == 5);
+        with_kernel(&rt, 4 <= given, given == 5);
     } else {
-        explain();
+        explain(&rt);
     }
 }

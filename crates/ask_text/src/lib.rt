@@ -161,10 +161,10 @@ pub fn put_answer(out: &mut [u8], at: usize, i: usize, answer: Answer) -> usize
 }
 
 // Writes the line of answer i to standard output. No contract can speak of what is written.
-pub fn write_answer(i: usize, answer: Answer) -> bool {
+pub fn write_answer(rt: &HostRuntime, i: usize, answer: Answer) -> bool {
     let mut line = [0u8; LINE];
     let n = put_answer(&mut line, 0, i, answer);
-    streams::write(&line, n)
+    streams::write(rt, &line, n)
 }
 
 // Puts the line of question i.

@@ -1,5 +1,5 @@
 -- Worked examples, closed by computation.
-use Rattle.std.specs.Prelude.{◌≡◌, refl, false, true, List, [], ◌∷◌, map, ℤ, pos, negsuc}
+use Rattle.std.specs.Prelude.{◌≡◌, refl, false, true, [], ◌∷◌, map, pos, negsuc}
 use Rattle.std.specs.Float.{fin}
 use Rattle.std.specs.Float.Ieee.{to_bits}
 use Rattle.refusal.specs.declared.Refusal.TheVariants.{EpochNan, NoCoverage}

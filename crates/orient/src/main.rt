@@ -9,47 +9,49 @@ ghost use Rattle.streams.specs.Input.{input_limit};
 use streams::Input;
 
 // What the program takes, on the error output.
-fn explain() {
-    streams::complain(b"usage: orient KERNEL QUESTIONS\n");
+fn explain(rt: &HostRuntime) {
+    streams::complain(rt, b"usage: orient KERNEL QUESTIONS\n");
     streams::complain(
+        rt,
         b"KERNEL a binary PCK file, QUESTIONS records of 14 bytes (A5 5C, body frame, epoch)\n",
     );
     streams::complain(
+        rt,
         b"writes a line for each question: its number, the reference frame, six numbers in radians and radians/s as bits; or the refusal\n",
     );
 }
 
 // Writes the whole output, at once.
-fn print(kernel: &[u8], asked: &[u8])
+fn print(rt: &HostRuntime, kernel: &[u8], asked: &[u8])
     requires { length asked.now ≤ input_limit + 1 }
 {
     let mut out = [0u8; orient_text::ROOM];
     let end = orient_text::put_output(&mut out, kernel, asked);
-    streams::write(&out, end);
+    streams::write(rt, &out, end);
 }
 
 // Reads the questions.
-fn with_questions(kernel: &[u8]) {
+fn with_questions(rt: &HostRuntime, kernel: &[u8]) {
     let mut buf = [0u8; streams::ROOM];
-    let input = streams::read_argument(2, b"QUESTIONS", &mut buf);
+    let input = streams::read_argument(rt, 2, b"QUESTIONS", &mut buf);
     if let Input::Bytes(n) = input {
-        print(kernel, &buf[..n]);
+        print(rt, kernel, &buf[..n]);
     }
 }
 
 // Reads the kernel.
-fn with_kernel() {
+fn with_kernel(rt: &HostRuntime) {
     let mut buf = [0u8; streams::ROOM];
-    let input = streams::read_argument(1, b"KERNEL", &mut buf);
+    let input = streams::read_argument(rt, 1, b"KERNEL", &mut buf);
     if let Input::Bytes(n) = input {
-        with_questions(&buf[..n]);
+        with_questions(rt, &buf[..n]);
     }
 }
 
-fn main() {
-    if os::arg_count() == 3 {
-        with_kernel();
+fn main(rt: HostRuntime) {
+    if streams::argument_count(&rt) == 3 {
+        with_kernel(&rt);
     } else {
-        explain();
+        explain(&rt);
     }
 }

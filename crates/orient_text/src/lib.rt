@@ -92,10 +92,10 @@ pub fn put_oriented(out: &mut [u8], at: usize, i: usize, a: Oriented) -> usize
 }
 
 // Writes the line of orientation i to standard output. No contract can speak of what is written.
-pub fn write_oriented(i: usize, a: Oriented) -> bool {
+pub fn write_oriented(rt: &HostRuntime, i: usize, a: Oriented) -> bool {
     let mut line = [0u8; LINE];
     let n = put_oriented(&mut line, 0, i, a);
-    streams::write(&line, n)
+    streams::write(rt, &line, n)
 }
 
 // Puts the line of question i.

@@ -4,6 +4,8 @@
 
 ghost use Rattle.std.specs.Prelude.{◌+◌, ◌≤◌, ◌<◌, length};
 
+use streams::Input;
+
 // One hexadecimal digit.
 fn digit(n: u8) -> u8
     requires { n < 16 }
@@ -12,7 +14,7 @@ fn digit(n: u8) -> u8
 }
 
 // Writes n as 16 digits and a space.
-fn put(n: u64) {
+fn put(rt: &HostRuntime, n: u64) {
     let mut line = [32u8; 17];
     let mut left = n;
     let mut i: usize = 16;
@@ -21,7 +23,7 @@ fn put(n: u64) {
         line[i] = digit((left % 16) as u8);
         left = left / 16;
     }
-    io::write_all(1, &line);
+    streams::write(rt, &line, 17);
 }
 
 // A signed number, or 0 where it is negative.
@@ -35,25 +37,32 @@ fn is_one(x: f64) -> u64 {
 }
 
 // The line of the 8 bytes at `at`.
-fn line(s: &[u8], at: usize)
+fn line(rt: &HostRuntime, s: &[u8], at: usize)
     requires { at + 8 ≤ length s.now }
 {
     let x = bits::double_at(s, at);
-    put(bits::le_u64(s, at));
-    put(lifted(bits::le_i32(s, at)));
-    put(bits::cut_u64(x));
-    put(bits::cut_u32(x) as u64);
-    put(bits::record_index(x, 7));
-    put(is_one(x));
-    io::write_all(1, b"\n");
+    put(rt, bits::le_u64(s, at));
+    put(rt, lifted(bits::le_i32(s, at)));
+    put(rt, bits::cut_u64(x));
+    put(rt, bits::cut_u32(x) as u64);
+    put(rt, bits::record_index(x, 7));
+    put(rt, is_one(x));
+    streams::write(rt, b"\n", 1);
 }
 
-fn main() {
-    let mut buf = io::buffer();
-    let got = io::read_full(0, &mut buf);
+// The lines of what was read, 8 bytes each; a rest of fewer has none.
+fn replay(rt: &HostRuntime, s: &[u8]) {
     let mut at: usize = 0;
-    while at + 8 <= got {
-        line(&buf, at);
+    while at + 8 <= s.len() {
+        line(rt, s, at);
         at += 8;
+    }
+}
+
+fn main(rt: HostRuntime) {
+    let mut buf = [0u8; 4096];
+    let input = streams::read_standard(&rt, &mut buf);
+    if let Input::Bytes(n) = input {
+        replay(&rt, &buf[..n]);
     }
 }

@@ -34,7 +34,14 @@ fn turn_len(kind: u32) -> usize
 }
 
 // Writes a line for each question to an SPK. The memory goes from question to question.
-fn write_answers(kernel: &[u8], table: Table, asked: &[u8], wanted: Wanted, rot: [[f64; 3]; 3]) {
+fn write_answers(
+    rt: &HostRuntime,
+    kernel: &[u8],
+    table: Table,
+    asked: &[u8],
+    wanted: Wanted,
+    rot: [[f64; 3]; 3],
+) {
     let n = asked.len() / 18;
     let mut memory = Memory::Blank;
     let mut i: usize = 0;
@@ -42,7 +49,7 @@ fn write_answers(kernel: &[u8], table: Table, asked: &[u8], wanted: Wanted, rot:
         let q = ask_text::question_at(asked, i);
         let r = owned::state_in(kernel, table, memory, q, wanted, rot);
         memory = r.memory;
-        if !ask_text::write_answer(i, r.answer) {
+        if !ask_text::write_answer(rt, i, r.answer) {
             return;
         }
         i += 1;
@@ -50,32 +57,32 @@ fn write_answers(kernel: &[u8], table: Table, asked: &[u8], wanted: Wanted, rot:
 }
 
 // Questions to an SPK: the refusal of the opening, or a line each. With a matrix and a frame each state is asked in that frame.
-fn tell_states(kernel: &[u8], opened: Opened, asked: &[u8], turn: &[u8]) {
+fn tell_states(rt: &HostRuntime, kernel: &[u8], opened: Opened, asked: &[u8], turn: &[u8]) {
     let outcome = opened.outcome;
     let table = opened.table;
     match outcome {
         Outcome::Refused(refusal) => {
-            streams::write_refusal(refusal);
+            streams::write_refusal(rt, refusal);
         }
         Outcome::Accepted => {
             if turn.len() == TURN {
                 let to = Wanted::In(bits::le_i32(turn, admission::MATRIX));
-                write_answers(kernel, table, asked, to, ask_text::rows(turn));
+                write_answers(rt, kernel, table, asked, to, ask_text::rows(turn));
             } else {
                 let none = [[0.0; 3]; 3];
-                write_answers(kernel, table, asked, Wanted::AsItStands, none);
+                write_answers(rt, kernel, table, asked, Wanted::AsItStands, none);
             }
         }
     }
 }
 
 // Writes a line for each question to a PCK.
-fn write_oriented(kernel: &[u8], table: Table, asked: &[u8]) {
+fn write_oriented(rt: &HostRuntime, kernel: &[u8], table: Table, asked: &[u8]) {
     let n = asked.len() / 14;
     let mut i: usize = 0;
     while i < n {
         let q = orient_text::question_at(asked, i);
-        if !orient_text::write_oriented(i, owned::orient(kernel, table, q)) {
+        if !orient_text::write_oriented(rt, i, owned::orient(kernel, table, q)) {
             return;
         }
         i += 1;
@@ -83,14 +90,14 @@ fn write_oriented(kernel: &[u8], table: Table, asked: &[u8]) {
 }
 
 // Questions to a PCK: the refusal of the opening, or a line each.
-fn tell_oriented(kernel: &[u8], opened: Opened, asked: &[u8]) {
+fn tell_oriented(rt: &HostRuntime, kernel: &[u8], opened: Opened, asked: &[u8]) {
     let outcome = opened.outcome;
     let table = opened.table;
     match outcome {
         Outcome::Refused(refusal) => {
-            streams::write_refusal(refusal);
+            streams::write_refusal(rt, refusal);
         }
-        Outcome::Accepted => write_oriented(kernel, table, asked),
+        Outcome::Accepted => write_oriented(rt, kernel, table, asked),
     }
 }
 
@@ -109,13 +116,13 @@ fn epoch_at(asked: &[u8], i: usize) -> f64
 }
 
 // Writes a line for each segment asked by its number.
-fn write_each(kernel: &[u8], table: Table, asked: &[u8]) {
+fn write_each(rt: &HostRuntime, kernel: &[u8], table: Table, asked: &[u8]) {
     let n = asked.len() / SIZE;
     let mut i: usize = 0;
     while i < n {
         let number = number_at(asked, i);
         let et = epoch_at(asked, i);
-        if !ask_text::write_answer(i, owned::alone(kernel, table, number, et)) {
+        if !ask_text::write_answer(rt, i, owned::alone(kernel, table, number, et)) {
             return;
         }
         i += 1;
@@ -123,25 +130,25 @@ fn write_each(kernel: &[u8], table: Table, asked: &[u8]) {
 }
 
 // Segments by their numbers: the refusal of the opening, or a line each.
-fn tell_alone(kernel: &[u8], opened: Opened, asked: &[u8]) {
+fn tell_alone(rt: &HostRuntime, kernel: &[u8], opened: Opened, asked: &[u8]) {
     let outcome = opened.outcome;
     let table = opened.table;
     match outcome {
         Outcome::Refused(refusal) => {
-            streams::write_refusal(refusal);
+            streams::write_refusal(rt, refusal);
         }
-        Outcome::Accepted => write_each(kernel, table, asked),
+        Outcome::Accepted => write_each(rt, kernel, table, asked),
     }
 }
 
 // Writes a line for each segment of a PCK asked by its number.
-fn write_turned(kernel: &[u8], table: Table, asked: &[u8]) {
+fn write_turned(rt: &HostRuntime, kernel: &[u8], table: Table, asked: &[u8]) {
     let n = asked.len() / SIZE;
     let mut i: usize = 0;
     while i < n {
         let number = number_at(asked, i);
         let et = epoch_at(asked, i);
-        if !orient_text::write_oriented(i, owned::orient_alone(kernel, table, number, et)) {
+        if !orient_text::write_oriented(rt, i, owned::orient_alone(kernel, table, number, et)) {
             return;
         }
         i += 1;
@@ -149,39 +156,41 @@ fn write_turned(kernel: &[u8], table: Table, asked: &[u8]) {
 }
 
 // Segments of a PCK by their numbers: the refusal of the opening, or a line each.
-fn tell_turned(kernel: &[u8], opened: Opened, asked: &[u8]) {
+fn tell_turned(rt: &HostRuntime, kernel: &[u8], opened: Opened, asked: &[u8]) {
     let outcome = opened.outcome;
     let table = opened.table;
     match outcome {
         Outcome::Refused(refusal) => {
-            streams::write_refusal(refusal);
+            streams::write_refusal(rt, refusal);
         }
-        Outcome::Accepted => write_turned(kernel, table, asked),
+        Outcome::Accepted => write_turned(rt, kernel, table, asked),
     }
 }
 
 // Puts the questions to a kernel with the table of `origin`.
-fn tell(kind: u32, turn: &[u8], origin: &[u8], kernel: &[u8], asked: &[u8]) {
+fn tell(rt: &HostRuntime, kind: u32, turn: &[u8], origin: &[u8], kernel: &[u8], asked: &[u8]) {
     match kind {
-        0 => tell_states(kernel, ask_text::open(origin, asked), asked, turn),
-        1 => tell_states(kernel, ask_text::open(origin, asked), asked, turn),
-        2 => tell_oriented(kernel, orient_text::open(origin, asked), asked),
+        0 => tell_states(rt, kernel, ask_text::open(origin, asked), asked, turn),
+        1 => tell_states(rt, kernel, ask_text::open(origin, asked), asked, turn),
+        2 => tell_oriented(rt, kernel, orient_text::open(origin, asked), asked),
         3 => tell_alone(
+            rt,
             kernel,
             admission::open(origin, Family::Spk, asked, SIZE, MARK),
             asked,
         ),
         4 => tell_turned(
+            rt,
             kernel,
             admission::open(origin, Family::Pck, asked, SIZE, MARK),
             asked,
         ),
-        _ => streams::complain(b"a block of another kind\n"),
+        _ => streams::complain(rt, b"a block of another kind\n"),
     }
 }
 
 // Replays the block at `at` and answers where the next one starts.
-fn replay_block(s: &[u8], at: usize) -> usize
+fn replay_block(rt: &HostRuntime, s: &[u8], at: usize) -> usize
     requires { at + 16 ≤ length s.now }
     ensures { (at + 16 ≤ result) × (result ≤ length s.now) }
 {
@@ -192,11 +201,12 @@ fn replay_block(s: &[u8], at: usize) -> usize
     let asked = kernel + bits::le_u32(s, at + 8) as usize;
     let next = asked + bits::le_u32(s, at + 12) as usize;
     if s.len() < next {
-        streams::complain(b"a block is cut short\n");
+        streams::complain(rt, b"a block is cut short\n");
         return s.len();
     }
     if origin == kernel {
         tell(
+            rt,
             kind,
             &s[turn..origin],
             &s[kernel..asked],
@@ -205,6 +215,7 @@ fn replay_block(s: &[u8], at: usize) -> usize
         );
     } else {
         tell(
+            rt,
             kind,
             &s[turn..origin],
             &s[origin..kernel],
@@ -216,31 +227,31 @@ fn replay_block(s: &[u8], at: usize) -> usize
 }
 
 // Replays the blocks of a file.
-fn replay(s: &[u8]) {
+fn replay(rt: &HostRuntime, s: &[u8]) {
     let mut at: usize = 0;
     while at < s.len() {
         if s.len() - at < 16 {
-            streams::complain(b"a block is cut short\n");
+            streams::complain(rt, b"a block is cut short\n");
             return;
         }
-        at = replay_block(s, at);
+        at = replay_block(rt, s, at);
     }
 }
 
 // Replays the file that argument i names.
-fn replay_argument(i: usize) {
+fn replay_argument(rt: &HostRuntime, i: usize) {
     let mut buf = [0u8; streams::ROOM];
-    let input = streams::read_argument(i, b"CASES", &mut buf);
+    let input = streams::read_argument(rt, i, b"CASES", &mut buf);
     if let Input::Bytes(n) = input {
-        replay(&buf[..n]);
+        replay(rt, &buf[..n]);
     }
 }
 
-fn main() {
-    let given = os::arg_count();
+fn main(rt: HostRuntime) {
+    let given = streams::argument_count(&rt);
     let mut i: usize = 1;
     while i < given {
-        replay_argument(i);
+        replay_argument(&rt, i);
         i += 1;
     }
 }

@@ -6,34 +6,35 @@
 ghost use Rattle.std.specs.Prelude.{◌+◌, ◌≤◌, ◌<◌, length};
 
 use frame::State;
+use streams::Input;
 
 // Writes the bits of x in 16 hexadecimal digits, or `nan`, and a space.
-fn put(x: f64) {
+fn put(rt: &HostRuntime, x: f64) {
     if x != x {
-        io::write_all(1, b"nan ");
+        let _ = rt.print("nan ");
         return;
     }
-    io::print_hex(1, f64::to_bits(x), 16);
-    io::write_all(1, b" ");
+    let n = f64::to_bits(x);
+    let _ = print!(rt; "{n:016x} ");
 }
 
 // Writes the six numbers of a line.
-fn put_state(a: State) {
-    put(a.x);
-    put(a.y);
-    put(a.z);
-    put(a.vx);
-    put(a.vy);
-    put(a.vz);
-    io::write_all(1, b"\n");
+fn put_state(rt: &HostRuntime, a: State) {
+    put(rt, a.x);
+    put(rt, a.y);
+    put(rt, a.z);
+    put(rt, a.vx);
+    put(rt, a.vy);
+    put(rt, a.vz);
+    let _ = rt.print("\n");
 }
 
 // Writes what a type 2 record gives.
-fn put_cheby(r: cheby::Cheby) {
+fn put_cheby(rt: &HostRuntime, r: cheby::Cheby) {
     match r {
-        cheby::Cheby::Value(a) => put_state(a),
+        cheby::Cheby::Value(a) => put_state(rt, a),
         cheby::Cheby::NoRadius => {
-            io::write_all(1, b"no radius\n");
+            let _ = rt.print("no radius\n");
         }
     }
 }
@@ -47,7 +48,7 @@ fn size(kind: u8, n: usize) -> usize
 }
 
 // Writes the line of the record at byte p, if all of it is there.
-fn answer(s: &[u8], kind: u8, p: usize, n: usize, et: f64)
+fn answer(rt: &HostRuntime, s: &[u8], kind: u8, p: usize, n: usize, et: f64)
     requires { n < 15 }
 {
     if s.len() < p {
@@ -56,10 +57,10 @@ fn answer(s: &[u8], kind: u8, p: usize, n: usize, et: f64)
     let room = s.len() - p;
     if kind == 2 {
         if 16 + 24 * n <= room {
-            put_cheby(cheby::type2_at(s, p, n, et));
+            put_cheby(rt, cheby::type2_at(s, p, n, et));
         }
     } else if 16 + 48 * n <= room {
-        put_state(cheby::type3_at(s, p, n, et));
+        put_state(rt, cheby::type3_at(s, p, n, et));
     }
 }
 
@@ -77,7 +78,7 @@ fn behind(first: usize, step: usize, r: u64) -> usize
 }
 
 // The question whose epoch is at byte e, of the segment whose head is at byte `at`.
-fn question(s: &[u8], at: usize, e: usize)
+fn question(rt: &HostRuntime, s: &[u8], at: usize, e: usize)
     requires { (at + 48 ≤ length s.now) × (e + 8 ≤ length s.now) × (at + 48 ≤ 65536) }
 {
     let kind = s[at];
@@ -87,30 +88,39 @@ fn question(s: &[u8], at: usize, e: usize)
     let init = bits::double_at(s, at + 8);
     let intlen = bits::double_at(s, at + 16);
     let r = cheby::record_at(init, intlen, et, count);
-    answer(s, kind, behind(at + 48, size(kind, n), r.number), n, et);
+    answer(rt, s, kind, behind(at + 48, size(kind, n), r.number), n, et);
 }
 
 // The block at byte `at`: type, coefficients and records less one in a byte each, INIT and INTLEN from byte 8, three epochs from byte 24, records from byte 48 on.
 // Answers the place after it.
-fn block(s: &[u8], at: usize) -> usize
+fn block(rt: &HostRuntime, s: &[u8], at: usize) -> usize
     requires { (at + 48 ≤ length s.now) × (at + 48 ≤ 65536) }
     ensures { at < result }
 {
-    question(s, at, at + 24);
-    question(s, at, at + 32);
-    question(s, at, at + 40);
+    question(rt, s, at, at + 24);
+    question(rt, s, at, at + 32);
+    question(rt, s, at, at + 40);
     let n = (s[at + 1] % 15) as usize;
     behind(at + 48, size(s[at], n), (1 + s[at + 2] % 3) as u64)
 }
 
-fn main() {
-    let mut buf = io::large_buffer();
-    let got = io::read_full(0, &mut buf);
+// The blocks of the input, which is no longer than what a record's place is held to. A last one that is cut short is not answered.
+fn replay(rt: &HostRuntime, s: &[u8])
+    requires { length s.now ≤ 65536 }
+{
     let mut at: usize = 0;
-    while at < got {
-        if got - at < 48 {
+    while at < s.len() {
+        if s.len() - at < 48 {
             return;
         }
-        at = block(&buf, at);
+        at = block(rt, s, at);
+    }
+}
+
+fn main(rt: HostRuntime) {
+    let mut buf = [0u8; 65536];
+    let input = streams::read_standard(&rt, &mut buf);
+    if let Input::Bytes(n) = input {
+        replay(&rt, &buf[..n]);
     }
 }

@@ -7,54 +7,60 @@ ghost use Rattle.std.specs.Prelude.{◌+◌, ◌≤◌, length};
 
 use daf::{Daf, Family, Opened};
 use refusal::Refusal;
+use streams::Input;
 
 // A number and a space.
-fn put(n: u64) {
-    io::print_decimal(1, n);
-    io::write_all(1, b" ");
+fn put(rt: &HostRuntime, n: u64) {
+    let _ = print!(rt; "{n} ");
 }
 
 // The name after record r.
-fn put_name(kernel: &[u8], r: u32) {
+fn put_name(rt: &HostRuntime, kernel: &[u8], r: u32) {
     let name = daf::name(kernel, Daf::RECORD * (r as usize));
-    io::write_all(1, b"[");
-    io::write_all(1, name);
-    io::write_all(1, b"]\n");
+    let _ = rt.print("[");
+    let _ = rt.write_all(name);
+    let _ = rt.println("]");
 }
 
-fn put_refusal(refusal: Refusal) {
-    io::write_all(1, b"refused ");
-    io::print_decimal(1, refusal.number() as u64);
-    io::write_all(1, b"\n");
+fn put_refusal(rt: &HostRuntime, refusal: Refusal) {
+    let n = refusal.number();
+    let _ = println!(rt; "refused {n}");
 }
 
-fn put_opened(kernel: &[u8], family: Family) {
+fn put_opened(rt: &HostRuntime, kernel: &[u8], family: Family) {
     let opened = daf::open(kernel, family, 256);
     match opened {
-        Opened::Refused(refusal) => put_refusal(refusal),
+        Opened::Refused(refusal) => put_refusal(rt, refusal),
         Opened::Accepted(d) => {
             let first = d.first;
-            put(first as u64);
-            put(d.records as u64);
-            put(d.summaries as u64);
-            put_name(kernel, first);
+            put(rt, first as u64);
+            put(rt, d.records as u64);
+            put(rt, d.summaries as u64);
+            put_name(rt, kernel, first);
         }
     }
 }
 
-fn main() {
-    let mut buf = [0u8; 196608];
-    let got = io::read_full(0, &mut buf);
+// The kernels of the input. A last one that is cut short is not opened.
+fn replay(rt: &HostRuntime, s: &[u8]) {
     let mut at: usize = 0;
-    while at + 4 <= got {
-        let len = bits::le_u32(&buf, at) as usize;
+    while at + 4 <= s.len() {
+        let len = bits::le_u32(s, at) as usize;
         at += 4;
-        if got - at < len {
+        if s.len() - at < len {
             return;
         }
         let end = at + len;
-        put_opened(&buf[at..end], Family::Spk);
-        put_opened(&buf[at..end], Family::Pck);
+        put_opened(rt, &s[at..end], Family::Spk);
+        put_opened(rt, &s[at..end], Family::Pck);
         at = end;
+    }
+}
+
+fn main(rt: HostRuntime) {
+    let mut buf = [0u8; 196608];
+    let input = streams::read_standard(&rt, &mut buf);
+    if let Input::Bytes(n) = input {
+        replay(&rt, &buf[..n]);
     }
 }

@@ -5,30 +5,32 @@
 
 ghost use Rattle.std.specs.Prelude.{◌+◌, ◌*◌, ◌≤◌, length};
 
+use streams::Input;
+
 // The bits of x in 16 hexadecimal digits, after a space. A NaN has no bits of its own.
-fn show(x: f64) {
+fn show(rt: &HostRuntime, x: f64) {
     if x != x {
-        io::write_all(1, b" nan");
+        let _ = rt.print(" nan");
         return;
     }
-    io::write_all(1, b" ");
-    io::print_hex(1, f64::to_bits(x), 16);
+    let n = f64::to_bits(x);
+    let _ = print!(rt; " {n:016x}");
 }
 
 // A line for a window and a state.
-fn line(start: usize, s: frame::State) {
-    io::print_decimal(1, start as u64);
-    show(s.x);
-    show(s.y);
-    show(s.z);
-    show(s.vx);
-    show(s.vy);
-    show(s.vz);
-    io::write_all(1, b"\n");
+fn line(rt: &HostRuntime, start: usize, s: frame::State) {
+    let _ = print!(rt; "{start}");
+    show(rt, s.x);
+    show(rt, s.y);
+    show(rt, s.z);
+    show(rt, s.vx);
+    show(rt, s.vy);
+    show(rt, s.vz);
+    let _ = rt.print("\n");
 }
 
 // A block of n states: the count, the type, at byte 8 the degree and at 16 the epoch; then the states and their epochs.
-fn block(s: &[u8], at: usize, n: usize)
+fn block(rt: &HostRuntime, s: &[u8], at: usize, n: usize)
     requires { at + 24 + 56 * n ≤ length s.now }
 {
     let degree = bits::le_u64(s, at + 8);
@@ -42,9 +44,9 @@ fn block(s: &[u8], at: usize, n: usize)
     let p = at + 24;
     let start = interp::window_at(s, p, n, degree, et);
     if s[at + 1] == 9 {
-        line(start, interp::type9_at(s, p, n, degree, et));
+        line(rt, start, interp::type9_at(s, p, n, degree, et));
     } else {
-        line(start, interp::type13_at(s, p, n, degree, et));
+        line(rt, start, interp::type13_at(s, p, n, degree, et));
     }
 }
 
@@ -55,17 +57,24 @@ fn count(b: u8) -> usize
     b as usize
 }
 
-fn main() {
-    let mut buf = [0u8; 131072];
-    let got = io::read_full(0, &mut buf);
+// The blocks of the input. A last one that is cut short is not answered.
+fn replay(rt: &HostRuntime, s: &[u8]) {
     let mut at: usize = 0;
-    while at + 24 <= got {
-        let n = count(buf[at]);
+    while at + 24 <= s.len() {
+        let n = count(s[at]);
         let next = at + 24 + 56 * n;
-        if got < next {
+        if s.len() < next {
             return;
         }
-        block(&buf, at, n);
+        block(rt, s, at, n);
         at = next;
+    }
+}
+
+fn main(rt: HostRuntime) {
+    let mut buf = [0u8; 131072];
+    let input = streams::read_standard(&rt, &mut buf);
+    if let Input::Bytes(n) = input {
+        replay(&rt, &buf[..n]);
     }
 }

@@ -20,6 +20,7 @@ use pck::Oriented;
 use refusal::Refusal;
 use segment::Segment;
 use spk::{Answer, Asked, Memory, Way};
+use streams::Input;
 use table::Table;
 
 // The bytes of a kernel that are read: room for 4,096 segments.
@@ -57,25 +58,25 @@ fn next(i: usize, n: usize) -> usize
 }
 
 // The question was answered; where not, a line on the error output says so.
-fn answered(way: Way) -> bool {
+fn answered(rt: &HostRuntime, way: Way) -> bool {
     match way {
         Way::Same => true,
         Way::Forward(_) => true,
         Way::Reversed(_) => true,
         Way::Chained => true,
         Way::Refused(_) => {
-            streams::complain(b"measure: a question was refused\n");
+            streams::complain(rt, b"measure: a question was refused\n");
             false
         }
     }
 }
 
 // The same of an orientation.
-fn oriented(outcome: pck::Outcome) -> bool {
+fn oriented(rt: &HostRuntime, outcome: pck::Outcome) -> bool {
     match outcome {
         pck::Outcome::Turned => true,
         pck::Outcome::Refused(_) => {
-            streams::complain(b"measure: an orientation was refused\n");
+            streams::complain(rt, b"measure: an orientation was refused\n");
             false
         }
     }
@@ -96,24 +97,24 @@ fn open(kernel: &[u8], passes: u64) -> State {
 }
 
 // The usage file was added up; where not, a line on the error output says so.
-fn added(outcome: tally::Outcome) -> bool {
+fn added(rt: &HostRuntime, outcome: tally::Outcome) -> bool {
     match outcome {
         tally::Outcome::Stated => true,
         tally::Outcome::Refused(_) => {
-            streams::complain(b"measure: the usage file was refused\n");
+            streams::complain(rt, b"measure: the usage file was refused\n");
             false
         }
     }
 }
 
 // Adds up a usage file.
-fn add(usage: &[u8], passes: u64) -> State {
+fn add(rt: &HostRuntime, usage: &[u8], passes: u64) -> State {
     let mut sum = State::zero();
     let mut i: u64 = 0;
     while i < passes {
         let s = tally::add_up(usage);
         let outcome = s.outcome;
-        if !added(outcome) {
+        if !added(rt, outcome) {
             return sum;
         }
         sum.x = sum.x + std::num::nearest_u64_to_f64(s.counts[0]);
@@ -123,7 +124,14 @@ fn add(usage: &[u8], passes: u64) -> State {
 }
 
 // Asks an SPK.
-fn ask(kernel: &[u8], table: Table, asked: &[u8], forget: bool, passes: u64) -> State {
+fn ask(
+    rt: &HostRuntime,
+    kernel: &[u8],
+    table: Table,
+    asked: &[u8],
+    forget: bool,
+    passes: u64,
+) -> State {
     let n = asked.len() / 18;
     let mut sum = State::zero();
     if n == 0 {
@@ -137,7 +145,7 @@ fn ask(kernel: &[u8], table: Table, asked: &[u8], forget: bool, passes: u64) -> 
         let r = owned::state(kernel, table, memory, q);
         let answer = r.answer;
         let way = answer.way;
-        if !answered(way) {
+        if !answered(rt, way) {
             return sum;
         }
         let given = answer.given;
@@ -153,7 +161,7 @@ fn ask(kernel: &[u8], table: Table, asked: &[u8], forget: bool, passes: u64) -> 
 }
 
 // Asks a PCK.
-fn orient(kernel: &[u8], table: Table, asked: &[u8], passes: u64) -> State {
+fn orient(rt: &HostRuntime, kernel: &[u8], table: Table, asked: &[u8], passes: u64) -> State {
     let n = asked.len() / 14;
     let mut sum = State::zero();
     if n == 0 {
@@ -165,7 +173,7 @@ fn orient(kernel: &[u8], table: Table, asked: &[u8], passes: u64) -> State {
         let q = pck_question(asked, at);
         let r = owned::orient(kernel, table, q);
         let outcome = r.outcome;
-        if !oriented(outcome) {
+        if !oriented(rt, outcome) {
             return sum;
         }
         let angles = r.angles;
@@ -205,9 +213,9 @@ fn memory_in(run: Sums) -> Memory {
 }
 
 // The sum; where a question was refused, a line on the error output says so.
-fn sum_in(run: Sums) -> State {
+fn sum_in(rt: &HostRuntime, run: Sums) -> State {
     if 0 < run.refused {
-        streams::complain(b"measure: a question was refused\n");
+        streams::complain(rt, b"measure: a question was refused\n");
     }
     run.sum
 }
@@ -314,12 +322,12 @@ fn unasked(q: spk::Question, kept: Memory) -> Asked {
 }
 
 // Goes through the questions as `ask_lent` does, and asks none.
-fn nothing(asked: &[u8], m: usize) -> State {
+fn nothing(rt: &HostRuntime, asked: &[u8], m: usize) -> State {
     let p = asked.len() / 18;
     let mut run = begin();
     let mut i: usize = 0;
     if p == 0 {
-        return sum_in(run);
+        return sum_in(rt, run);
     }
     while i < m {
         let q = spk_asked(asked, i, p);
@@ -328,11 +336,12 @@ fn nothing(asked: &[u8], m: usize) -> State {
         run = with_answer(run, r, false);
         i = next_pass(i, m);
     }
-    sum_in(run)
+    sum_in(rt, run)
 }
 
 // Asks an SPK.
 fn ask_lent(
+    rt: &HostRuntime,
     kernel: &[u8],
     table: &[Segment],
     asked: &[u8],
@@ -353,11 +362,12 @@ fn ask_lent(
         let next = next_pass(i, m);
         i = next;
     }
-    sum_in(run)
+    sum_in(rt, run)
 }
 
 // The same through an index.
 fn ask_indexed(
+    rt: &HostRuntime,
     kernel: &[u8],
     table: &[Segment],
     ix: &[u16],
@@ -379,11 +389,12 @@ fn ask_indexed(
         let next = next_pass(i, m);
         i = next;
     }
-    sum_in(run)
+    sum_in(rt, run)
 }
 
 // Asks a PCK.
 fn orient_lent(
+    rt: &HostRuntime,
     kernel: &[u8],
     table: &[Segment],
     asked: &[u8],
@@ -402,7 +413,7 @@ fn orient_lent(
         let next = next_pass(i, m);
         i = next;
     }
-    sum_in(run)
+    sum_in(rt, run)
 }
 
 fn spk_family() -> Family
@@ -418,31 +429,39 @@ fn pck_family() -> Family
 }
 
 // The plan of the opening; a refusal is said on the error output.
-fn planned(kernel: &[u8], family: Family) -> Plan
+fn planned(rt: &HostRuntime, kernel: &[u8], family: Family) -> Plan
     ensures { result ≡ plan_of family lent_limit kernel.now }
 {
     let p = opening::plan_of(kernel, family, Table::LENT);
     if let Plan::Refuse(_) = p {
-        streams::complain(b"measure: the kernel was refused\n");
+        streams::complain(rt, b"measure: the kernel was refused\n");
     }
     p
 }
 
 // Opens an SPK into a table of 4,096 places, and asks it.
-fn lend_spk(kernel: &[u8], asked: &[u8], p: usize, forget: bool, passes: usize) -> State
+fn lend_spk(
+    rt: &HostRuntime,
+    kernel: &[u8],
+    asked: &[u8],
+    p: usize,
+    forget: bool,
+    passes: usize,
+) -> State
     requires { (0 < p) × (18 * p ≤ length asked.now) }
 {
     let f = spk_family();
     let e = table::no_segment();
     let mut t = [e; Table::LENT];
-    let y = planned(kernel, f);
+    let y = planned(rt, kernel, f);
     lent::carry_out(&mut t, kernel, f, y);
     let n = opening::count_in(y);
-    ask_lent(kernel, &t, asked, n, p, forget, passes)
+    ask_lent(rt, kernel, &t, asked, n, p, forget, passes)
 }
 
 // Opens an SPK into a table of 4,096 places, fills its index, and asks through that.
 fn lend_indexed(
+    rt: &HostRuntime,
     kernel: &[u8],
     asked: &[u8],
     ix: &mut [u16],
@@ -455,27 +474,27 @@ fn lend_indexed(
     let f = spk_family();
     let e = table::no_segment();
     let mut t = [e; Table::LENT];
-    let y = planned(kernel, f);
+    let y = planned(rt, kernel, f);
     indexed::carry_out(&mut t, ix, kernel, f, y);
     let n = opening::count_in(y);
-    ask_indexed(kernel, &t, ix, asked, n, p, forget, passes)
+    ask_indexed(rt, kernel, &t, ix, asked, n, p, forget, passes)
 }
 
 // Opens a PCK into a table of 4,096 places, and asks it.
-fn lend_pck(kernel: &[u8], asked: &[u8], p: usize, passes: usize) -> State
+fn lend_pck(rt: &HostRuntime, kernel: &[u8], asked: &[u8], p: usize, passes: usize) -> State
     requires { (0 < p) × (14 * p ≤ length asked.now) }
 {
     let f = pck_family();
     let e = table::no_segment();
     let mut t = [e; Table::LENT];
-    let y = planned(kernel, f);
+    let y = planned(rt, kernel, f);
     lent::carry_out(&mut t, kernel, f, y);
     let n = opening::count_in(y);
-    orient_lent(kernel, &t, asked, n, p, passes)
+    orient_lent(rt, kernel, &t, asked, n, p, passes)
 }
 
 // Opens an SPK into a table of 4,096 places that is made anew, and puts it the first question: once a pass.
-fn open_lent(kernel: &[u8], asked: &[u8], passes: u64) -> State {
+fn open_lent(rt: &HostRuntime, kernel: &[u8], asked: &[u8], passes: u64) -> State {
     let p = asked.len() / 18;
     let mut sum = State::zero();
     if p == 0 {
@@ -483,7 +502,7 @@ fn open_lent(kernel: &[u8], asked: &[u8], passes: u64) -> State {
     }
     let mut i: u64 = 0;
     while i < passes {
-        let s = lend_spk(kernel, asked, p, true, 1);
+        let s = lend_spk(rt, kernel, asked, p, true, 1);
         sum = sum.plus(s);
         i += 1;
     }
@@ -491,7 +510,7 @@ fn open_lent(kernel: &[u8], asked: &[u8], passes: u64) -> State {
 }
 
 // The same with its index.
-fn open_indexed(kernel: &[u8], asked: &[u8], passes: u64) -> State {
+fn open_indexed(rt: &HostRuntime, kernel: &[u8], asked: &[u8], passes: u64) -> State {
     let p = asked.len() / 18;
     let mut sum = State::zero();
     if p == 0 {
@@ -500,7 +519,7 @@ fn open_indexed(kernel: &[u8], asked: &[u8], passes: u64) -> State {
     let mut ix = [0u16; 16384];
     let mut i: u64 = 0;
     while i < passes {
-        let s = lend_indexed(kernel, asked, &mut ix, p, true, 1);
+        let s = lend_indexed(rt, kernel, asked, &mut ix, p, true, 1);
         sum = sum.plus(s);
         i += 1;
     }
@@ -508,24 +527,24 @@ fn open_indexed(kernel: &[u8], asked: &[u8], passes: u64) -> State {
 }
 
 // The passes over a kernel that is opened into a lent table.
-fn over_lent(kernel: &[u8], asked: &[u8], mode: &[u8], passes: u64) -> State {
+fn over_lent(rt: &HostRuntime, kernel: &[u8], asked: &[u8], mode: &[u8], passes: u64) -> State {
     let count = (passes % 1000000000) as usize;
-    if check::same(mode, b"orient") {
+    if same(mode, b"orient") {
         let p = asked.len() / 14;
         if p == 0 {
             return State::zero();
         }
-        return lend_pck(kernel, asked, p, count);
+        return lend_pck(rt, kernel, asked, p, count);
     }
     let p = asked.len() / 18;
     if p == 0 {
         return State::zero();
     }
-    lend_spk(kernel, asked, p, check::same(mode, b"forget"), count)
+    lend_spk(rt, kernel, asked, p, same(mode, b"forget"), count)
 }
 
 // The passes through an index.
-fn over_indexed(kernel: &[u8], asked: &[u8], mode: &[u8], passes: u64) -> State {
+fn over_indexed(rt: &HostRuntime, kernel: &[u8], asked: &[u8], mode: &[u8], passes: u64) -> State {
     let count = (passes % 1000000000) as usize;
     let p = asked.len() / 18;
     if p == 0 {
@@ -533,17 +552,23 @@ fn over_indexed(kernel: &[u8], asked: &[u8], mode: &[u8], passes: u64) -> State 
     }
     let mut ix = [0u16; 16384];
     lend_indexed(
+        rt,
         kernel,
         asked,
         &mut ix,
         p,
-        check::same(mode, b"indexed-forget"),
+        same(mode, b"indexed-forget"),
         count,
     )
 }
 
+// The mode's name is this.
+fn same(mode: &[u8], name: &[u8]) -> bool {
+    mode == name
+}
+
 fn through_index(mode: &[u8]) -> bool {
-    check::same(mode, b"indexed-remember") || check::same(mode, b"indexed-forget")
+    same(mode, b"indexed-remember") || same(mode, b"indexed-forget")
 }
 
 // The number that a text of at most nine digits writes.
@@ -571,94 +596,92 @@ fn digit(b: u8) -> u64
 }
 
 // The passes over a kernel that is opened by value.
-fn over(kernel: &[u8], asked: &[u8], mode: &[u8], passes: u64) -> State {
-    let pck = check::same(mode, b"by-orient");
+fn over(rt: &HostRuntime, kernel: &[u8], asked: &[u8], mode: &[u8], passes: u64) -> State {
+    let pck = same(mode, b"by-orient");
     let family = if pck { Family::Pck } else { Family::Spk };
     let opened = owned::open(kernel, family);
     let outcome = opened.outcome;
     let table = opened.table;
     if let Outcome::Refused(_) = outcome {
-        streams::complain(b"measure: the kernel was refused\n");
+        streams::complain(rt, b"measure: the kernel was refused\n");
         return State::zero();
     }
     if pck {
-        return orient(kernel, table, asked, passes);
+        return orient(rt, kernel, table, asked, passes);
     }
-    ask(
-        kernel,
-        table,
-        asked,
-        check::same(mode, b"by-forget"),
-        passes,
-    )
+    ask(rt, kernel, table, asked, same(mode, b"by-forget"), passes)
 }
 
 fn by_value(mode: &[u8]) -> bool {
-    check::same(mode, b"by-remember")
-        || check::same(mode, b"by-forget")
-        || check::same(mode, b"by-orient")
+    same(mode, b"by-remember") || same(mode, b"by-forget") || same(mode, b"by-orient")
 }
 
 // The passes in a mode.
-fn run(kernel: &[u8], asked: &[u8], mode: &[u8], passes: u64) -> State {
-    if check::same(mode, b"nothing") {
-        return nothing(asked, (passes % 1000000000) as usize);
+fn run(rt: &HostRuntime, kernel: &[u8], asked: &[u8], mode: &[u8], passes: u64) -> State {
+    if same(mode, b"nothing") {
+        return nothing(rt, asked, (passes % 1000000000) as usize);
     }
-    if check::same(mode, b"open") {
-        return open_lent(kernel, asked, passes);
+    if same(mode, b"open") {
+        return open_lent(rt, kernel, asked, passes);
     }
-    if check::same(mode, b"indexed-open") {
-        return open_indexed(kernel, asked, passes);
+    if same(mode, b"indexed-open") {
+        return open_indexed(rt, kernel, asked, passes);
     }
-    if check::same(mode, b"by-open") {
+    if same(mode, b"by-open") {
         return open(kernel, passes);
     }
-    if check::same(mode, b"add") {
-        return add(kernel, passes);
+    if same(mode, b"add") {
+        return add(rt, kernel, passes);
     }
     if through_index(mode) {
-        return over_indexed(kernel, asked, mode, passes);
+        return over_indexed(rt, kernel, asked, mode, passes);
     }
     if by_value(mode) {
-        return over(kernel, asked, mode, passes);
+        return over(rt, kernel, asked, mode, passes);
     }
-    over_lent(kernel, asked, mode, passes)
+    over_lent(rt, kernel, asked, mode, passes)
 }
 
 // Writes the sum.
-fn write_sum(sum: State) {
+fn write_sum(rt: &HostRuntime, sum: State) {
     let mut line = [0u8; 102];
     let n = lines::put_state(&mut line, 0, sum);
-    io::write_all(1, &line[..n]);
-    io::write_all(1, b"\n");
+    streams::write(rt, &line, n);
+    streams::write(rt, b"\n", 1);
 }
 
 // Reads the file that argument i names: nothing where it can't be read, which a line on the error output then says.
-fn load(i: usize, buf: &mut [u8]) -> usize
+fn load(rt: &HostRuntime, i: usize, what: &[u8], buf: &mut [u8]) -> usize
     ensures { IsPrefixLen result buf.new }
 {
-    let mut name = io::buffer();
-    let n = os::arg(i, &mut name);
-    let fd = os::open_read(&name[..n]);
-    if fd < 0 {
-        os::fail(&name[..n]);
-        return 0;
+    let input = streams::read_argument(rt, i, what, buf);
+    match input {
+        Input::Bytes(n) => n,
+        Input::Unreadable => 0,
     }
-    io::read_full(fd, buf)
 }
 
-fn main() {
-    if os::arg_count() != 5 {
-        streams::complain(b"usage: replay_measure MODE KERNEL QUESTIONS PASSES\n");
+fn main(rt: HostRuntime) {
+    if streams::argument_count(&rt) != 5 {
+        streams::complain(&rt, b"usage: replay_measure MODE KERNEL QUESTIONS PASSES\n");
         return;
     }
     let mut mode = [0u8; 20];
-    let m = os::arg(1, &mut mode);
+    let m = streams::argument(&rt, 1, &mut mode).unwrap_or(0);
     let mut passes = [0u8; 16];
-    let p = os::arg(4, &mut passes);
+    let p = streams::argument(&rt, 4, &mut passes).unwrap_or(0);
     let mut kernel = [0u8; ROOM];
-    let k = load(2, &mut kernel);
-    let mut asked = io::large_buffer();
-    let q = load(3, &mut asked);
-    write_sum(run(&kernel[..k], &asked[..q], &mode[..m], number(&passes[..p])));
+    let k = load(&rt, 2, b"KERNEL", &mut kernel);
+    let mut asked = [0u8; 65536];
+    let q = load(&rt, 3, b"QUESTIONS", &mut asked);
+    write_sum(
+        &rt,
+        run(
+            &rt,
+            &kernel[..k],
+            &asked[..q],
+            &mode[..m],
+            number(&passes[..p]),
+        ),
+    );
 }

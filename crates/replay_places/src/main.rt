@@ -102,39 +102,48 @@ fn refused_by(a: Asked) -> u32 {
 }
 
 // Writes a number.
-fn write_decimal(x: u64) {
+fn write_decimal(rt: &HostRuntime, x: u64) {
     let mut line = [0u8; 21];
     let n = lines::put_decimal(&mut line, 0, x);
-    streams::write(&line, n);
+    streams::write(rt, &line, n);
 }
 
 // Writes a space and a number.
-fn write_number(x: u64) {
-    io::write_all(1, b" ");
-    write_decimal(x);
+fn write_number(rt: &HostRuntime, x: u64) {
+    streams::write(rt, b" ", 1);
+    write_decimal(rt, x);
 }
 
 // Writes a space and the bits of a number.
-fn write_bits(x: f64) {
+fn write_bits(rt: &HostRuntime, x: f64) {
     let mut line = [0u8; 17];
     let n = lines::put_number(&mut line, 0, x);
-    streams::write(&line, n);
+    streams::write(rt, &line, n);
 }
 
 // Writes a line.
-fn write_line(places: usize, p: Plan, q: Plan, sum: f64, a: Asked, b: Asked, c: Asked) {
-    write_decimal(places as u64);
-    write_number(came_to(p) as u64);
-    write_number(came_to(q) as u64);
-    write_bits(sum);
-    write_number(refused_by(a) as u64);
-    write_number(refused_by(b) as u64);
-    write_number(refused_by(c) as u64);
-    io::write_all(1, b"\n");
+fn write_line(
+    rt: &HostRuntime,
+    places: usize,
+    p: Plan,
+    q: Plan,
+    sum: f64,
+    a: Asked,
+    b: Asked,
+    c: Asked,
+) {
+    write_decimal(rt, places as u64);
+    write_number(rt, came_to(p) as u64);
+    write_number(rt, came_to(q) as u64);
+    write_bits(rt, sum);
+    write_number(rt, refused_by(a) as u64);
+    write_number(rt, refused_by(b) as u64);
+    write_number(rt, refused_by(c) as u64);
+    streams::write(rt, b"\n", 1);
 }
 
 // Writes what two openings left in a table, and what is asked of it with three counts.
-fn tell(kernel: &[u8], table: &[Segment], p: Plan, q: Plan) {
+fn tell(rt: &HostRuntime, kernel: &[u8], table: &[Segment], p: Plan, q: Plan) {
     let places = lent::table_len(table);
     let sum = digest(table, places);
     let x = question();
@@ -145,7 +154,7 @@ fn tell(kernel: &[u8], table: &[Segment], p: Plan, q: Plan) {
     let b = lent::state(kernel, table, more, m, x);
     let most = too_many();
     let c = lent::state(kernel, table, most, m, x);
-    write_line(places, p, q, sum, a, b, c);
+    write_line(rt, places, p, q, sum, a, b, c);
 }
 
 // ---- by value
@@ -168,22 +177,22 @@ fn remembered(m: Memory) -> u64 {
 }
 
 // Writes what an opening by value resulted in.
-fn tell_owned(kernel: &[u8]) {
+fn tell_owned(rt: &HostRuntime, kernel: &[u8]) {
     let o = owned::open_spk(kernel);
     let opened = o.opened;
     let memory = o.memory;
     let table = opened.table;
     let a = owned::state(kernel, table, memory, question());
-    io::write_all(1, b"value");
-    write_number(opened_to(opened) as u64);
-    write_number(remembered(memory));
-    write_number(refused_by(a) as u64);
-    io::write_all(1, b"\n");
+    streams::write(rt, b"value", 5);
+    write_number(rt, opened_to(opened) as u64);
+    write_number(rt, remembered(memory));
+    write_number(rt, refused_by(a) as u64);
+    streams::write(rt, b"\n", 1);
 }
 
 // ---- the tables
 
-fn lend_0(first: &[u8], second: &[u8]) {
+fn lend_0(rt: &HostRuntime, first: &[u8], second: &[u8]) {
     let f = family();
     let e = table::no_segment();
     let mut t = [e; 0];
@@ -191,10 +200,10 @@ fn lend_0(first: &[u8], second: &[u8]) {
     lent::carry_out(&mut t, first, f, p);
     let q = opening::plan_of(second, f, 0);
     lent::carry_out(&mut t, second, f, q);
-    tell(second, &t, p, q);
+    tell(rt, second, &t, p, q);
 }
 
-fn lend_256(first: &[u8], second: &[u8]) {
+fn lend_256(rt: &HostRuntime, first: &[u8], second: &[u8]) {
     let f = family();
     let e = table::no_segment();
     let mut t = [e; 256];
@@ -202,10 +211,10 @@ fn lend_256(first: &[u8], second: &[u8]) {
     lent::carry_out(&mut t, first, f, p);
     let q = opening::plan_of(second, f, 256);
     lent::carry_out(&mut t, second, f, q);
-    tell(second, &t, p, q);
+    tell(rt, second, &t, p, q);
 }
 
-fn lend_257(first: &[u8], second: &[u8]) {
+fn lend_257(rt: &HostRuntime, first: &[u8], second: &[u8]) {
     let f = family();
     let e = table::no_segment();
     let mut t = [e; 257];
@@ -213,10 +222,10 @@ fn lend_257(first: &[u8], second: &[u8]) {
     lent::carry_out(&mut t, first, f, p);
     let q = opening::plan_of(second, f, 257);
     lent::carry_out(&mut t, second, f, q);
-    tell(second, &t, p, q);
+    tell(rt, second, &t, p, q);
 }
 
-fn lend_4096(first: &[u8], second: &[u8]) {
+fn lend_4096(rt: &HostRuntime, first: &[u8], second: &[u8]) {
     let f = family();
     let e = table::no_segment();
     let mut t = [e; 4096];
@@ -224,10 +233,10 @@ fn lend_4096(first: &[u8], second: &[u8]) {
     lent::carry_out(&mut t, first, f, p);
     let q = opening::plan_of(second, f, 4096);
     lent::carry_out(&mut t, second, f, q);
-    tell(second, &t, p, q);
+    tell(rt, second, &t, p, q);
 }
 
-fn lend_4097(first: &[u8], second: &[u8]) {
+fn lend_4097(rt: &HostRuntime, first: &[u8], second: &[u8]) {
     let f = family();
     let e = table::no_segment();
     let mut t = [e; 4097];
@@ -235,7 +244,7 @@ fn lend_4097(first: &[u8], second: &[u8]) {
     lent::carry_out(&mut t, first, f, p);
     let q = opening::plan_of(second, f, 4097);
     lent::carry_out(&mut t, second, f, q);
-    tell(second, &t, p, q);
+    tell(rt, second, &t, p, q);
 }
 
 // ---- the kernels
@@ -244,58 +253,58 @@ fn lend_4097(first: &[u8], second: &[u8]) {
 const ROOM: usize = 170000;
 
 // Opens two kernels into each table.
-fn lend_all(first: &[u8], second: &[u8]) {
-    lend_0(first, second);
-    lend_256(first, second);
-    lend_257(first, second);
-    lend_4096(first, second);
-    lend_4097(first, second);
+fn lend_all(rt: &HostRuntime, first: &[u8], second: &[u8]) {
+    lend_0(rt, first, second);
+    lend_256(rt, first, second);
+    lend_257(rt, first, second);
+    lend_4096(rt, first, second);
+    lend_4097(rt, first, second);
 }
 
 // Reads kernel j.
-fn with_second(first: &[u8], j: usize) {
+fn with_second(rt: &HostRuntime, first: &[u8], j: usize) {
     let mut buf = [0u8; ROOM];
-    let input = streams::read_argument(j, b"KERNEL", &mut buf);
+    let input = streams::read_argument(rt, j, b"KERNEL", &mut buf);
     if let Input::Bytes(n) = input {
-        lend_all(first, &buf[..n]);
+        lend_all(rt, first, &buf[..n]);
     }
 }
 
 // Opens kernel i and then kernel j.
-fn pair(i: usize, j: usize) {
+fn pair(rt: &HostRuntime, i: usize, j: usize) {
     let mut buf = [0u8; ROOM];
-    let input = streams::read_argument(i, b"KERNEL", &mut buf);
+    let input = streams::read_argument(rt, i, b"KERNEL", &mut buf);
     if let Input::Bytes(n) = input {
-        with_second(&buf[..n], j);
+        with_second(rt, &buf[..n], j);
     }
 }
 
 // Opens kernel i by value.
-fn one(i: usize) {
+fn one(rt: &HostRuntime, i: usize) {
     let mut buf = [0u8; ROOM];
-    let input = streams::read_argument(i, b"KERNEL", &mut buf);
+    let input = streams::read_argument(rt, i, b"KERNEL", &mut buf);
     if let Input::Bytes(n) = input {
-        tell_owned(&buf[..n]);
+        tell_owned(rt, &buf[..n]);
     }
 }
 
-fn main() {
-    if os::arg_count() != 7 {
-        streams::complain(b"usage: replay_places NONE ONE SOME MORE MOST MANY\n");
+fn main(rt: HostRuntime) {
+    if streams::argument_count(&rt) != 7 {
+        streams::complain(&rt, b"usage: replay_places NONE ONE SOME MORE MOST MANY\n");
         return;
     }
-    pair(1, 1);
-    pair(1, 2);
-    pair(2, 1);
-    pair(4, 2);
-    pair(4, 3);
-    pair(3, 4);
-    pair(6, 2);
-    pair(6, 5);
-    pair(5, 6);
-    pair(5, 2);
-    one(1);
-    one(2);
-    one(3);
-    one(4);
+    pair(&rt, 1, 1);
+    pair(&rt, 1, 2);
+    pair(&rt, 2, 1);
+    pair(&rt, 4, 2);
+    pair(&rt, 4, 3);
+    pair(&rt, 3, 4);
+    pair(&rt, 6, 2);
+    pair(&rt, 6, 5);
+    pair(&rt, 5, 6);
+    pair(&rt, 5, 2);
+    one(&rt, 1);
+    one(&rt, 2);
+    one(&rt, 3);
+    one(&rt, 4);
 }

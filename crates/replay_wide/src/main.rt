@@ -11,36 +11,36 @@ use streams::Input;
 const ROOM: usize = 200000;
 
 // Writes the reply of a kernel of any length, at once.
-fn print(kernel: &[u8], asked: &[u8])
+fn print(rt: &HostRuntime, kernel: &[u8], asked: &[u8])
     requires { length asked.now ≤ input_limit + 1 }
 {
     let mut out = [0u8; ask_text::ROOM];
     let end = ask_text::put_text(&mut out, kernel, asked, b"", frame::ECLIPJ2000);
-    streams::write(&out, end);
+    streams::write(rt, &out, end);
 }
 
 // Reads the questions.
-fn with_questions(kernel: &[u8]) {
+fn with_questions(rt: &HostRuntime, kernel: &[u8]) {
     let mut buf = [0u8; streams::ROOM];
-    let input = streams::read_argument(2, b"QUESTIONS", &mut buf);
+    let input = streams::read_argument(rt, 2, b"QUESTIONS", &mut buf);
     if let Input::Bytes(n) = input {
-        print(kernel, &buf[..n]);
+        print(rt, kernel, &buf[..n]);
     }
 }
 
 // Reads the kernel.
-fn with_kernel() {
+fn with_kernel(rt: &HostRuntime) {
     let mut buf = [0u8; ROOM];
-    let input = streams::read_argument(1, b"KERNEL", &mut buf);
+    let input = streams::read_argument(rt, 1, b"KERNEL", &mut buf);
     if let Input::Bytes(n) = input {
-        with_questions(&buf[..n]);
+        with_questions(rt, &buf[..n]);
     }
 }
 
-fn main() {
-    if os::arg_count() == 3 {
-        with_kernel();
+fn main(rt: HostRuntime) {
+    if streams::argument_count(&rt) == 3 {
+        with_kernel(&rt);
     } else {
-        streams::complain(b"usage: replay_wide KERNEL QUESTIONS\n");
+        streams::complain(&rt, b"usage: replay_wide KERNEL QUESTIONS\n");
     }
 }

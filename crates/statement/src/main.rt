@@ -4,18 +4,19 @@
 
 use streams::Input;
 
-fn main() {
-    if os::arg_count() != 1 {
+fn main(rt: HostRuntime) {
+    if streams::argument_count(&rt) != 1 {
         streams::complain(
+            &rt,
             b"usage: statement < USAGE\nUSAGE is a usage file of at most 65536 bytes, in records of 8 bytes.\nPrints a line for each supplier and the total, or the refusal.\n",
         );
         return;
     }
     let mut usage = [0u8; streams::ROOM];
-    let input = streams::read_standard(&mut usage);
+    let input = streams::read_standard(&rt, &mut usage);
     if let Input::Bytes(n) = input {
         let mut out = [0u8; statement_text::ROOM];
         let end = statement_text::put_output(&mut out, &usage[..n]);
-        streams::write(&out, end);
+        streams::write(&rt, &out, end);
     }
 }

@@ -3,10 +3,15 @@
 
 #![tactic(auto)]
 
-ghost use Rattle.std.specs.Prelude.{◌≡◌, ◌≤◌, ltb, length};
+ghost use Rattle.std.specs.Prelude.{◌≡◌, ◌≤◌, ltb, length, IfOk};
+ghost use Rattle.io.specs.Counts.{IsPrefixLen};
 ghost use Rattle.streams.specs.Input.{Within, input_limit};
 
 use refusal::Refusal;
+use std::env::{Env, FillError};
+use std::fs::File;
+use std::io;
+use std::io::{Print, Read};
 
 // What reading results in: how many bytes, or that it failed, which a line on the error output then says.
 #[derive(Clone, Copy)]
@@ -21,6 +26,14 @@ pub const LIMIT: usize = 65536;
 // A buffer for one file: one byte more than a program takes, so that a longer file shows.
 pub const ROOM: usize = LIMIT + 1;
 
+// The most bytes of an argument, which is as long as any path.
+pub const ARGUMENT: usize = 4096;
+
+// The system's numbers for an argument that isn't there, and for one that is longer than that.
+const MISSING: i32 = 22;
+
+const TOO_LONG: i32 = 36;
+
 // A program's input of this length is over the limit (18).
 pub fn too_long(n: usize) -> bool
     ensures { result ≡ ltb input_limit n }
@@ -29,88 +42,135 @@ pub fn too_long(n: usize) -> bool
 }
 
 // Reads until the buffer is full or the input ends.
-fn fill(fd: i32, buf: &mut [u8]) -> Input
-    ensures { Within result buf.new }
+fn fill<R: Read>(source: &mut R, buf: &mut [u8]) -> io::Result<usize>
+    ensures { IfOk result (λ n. IsPrefixLen n buf.new) }
 {
     let mut n: usize = 0;
     while n < buf.len() {
-        let got = libc::read(fd, &mut buf[n..]);
-        if got < 0 {
-            return Input::Unreadable;
-        }
-        let more = io::count(got, &buf[n..]);
+        let more = source.read(&mut buf[n..])?;
         if more == 0 {
-            return Input::Bytes(n);
+            return Ok(n);
         }
         n += more;
     }
-    Input::Bytes(n)
+    Ok(n)
+}
+
+// Writes a line to the error output: what failed, a colon and the system's reason.
+fn tell(rt: &HostRuntime, what: &[u8], error: io::Error) {
+    complain(rt, what);
+    let _ = rt.stderr().print(": ");
+    let _ = rt.stderr().println(error);
+}
+
+// What reading resulted in; where it failed, a line on the error output says so.
+fn input_of(rt: &HostRuntime, what: &[u8], buf: &[u8], read: io::Result<usize>) -> Input
+    requires { IfOk read (λ n. IsPrefixLen n buf.now) }
+    ensures { Within result buf.now }
+{
+    match read {
+        Ok(n) => Input::Bytes(n),
+        Err(error) => {
+            tell(rt, what, error);
+            Input::Unreadable
+        }
+    }
 }
 
 // Reads standard input.
-pub fn read_standard(buf: &mut [u8]) -> Input
+pub fn read_standard(rt: &HostRuntime, buf: &mut [u8]) -> Input
     ensures { Within result buf.new }
 {
-    let input = fill(0, buf);
-    if let Input::Unreadable = input {
-        os::fail(b"standard input");
-    }
-    input
+    let read = fill(&mut rt.stdin(), buf);
+    input_of(rt, b"standard input", buf, read)
 }
 
-// Reads the file of this name.
-fn read_file(name: &[u8], buf: &mut [u8]) -> Input
+// Opens the file of this name and reads it.
+fn load(rt: &HostRuntime, name: &str, buf: &mut [u8]) -> io::Result<usize>
+    ensures { IfOk result (λ n. IsPrefixLen n buf.new) }
+{
+    let mut file = File::open(rt, name)?;
+    fill(&mut file, buf)
+}
+
+// Reads the file of this name, which is text in UTF-8.
+fn read_file(rt: &HostRuntime, name: &[u8], buf: &mut [u8]) -> Input
     ensures { Within result buf.new }
 {
-    let fd = os::open_read(name);
-    if fd < 0 {
-        os::fail(name);
-        return Input::Unreadable;
+    match str::from_utf8(name) {
+        Ok(text) => {
+            let read = load(rt, text, buf);
+            input_of(rt, name, buf, read)
+        }
+        Err(_) => {
+            complain(rt, name);
+            complain(rt, b": a file name that is no text in UTF-8\n");
+            Input::Unreadable
+        }
     }
-    let input = fill(fd, buf);
-    if let Input::Unreadable = input {
-        os::fail(name);
+}
+
+// How many arguments the program was started with, its own name among them.
+pub fn argument_count(rt: &HostRuntime) -> usize {
+    for i in 0..usize::MAX {
+        // without room: one that is there is too long, or empty
+        if let Err(FillError::NotPresent) = rt.arg(i, &mut []) {
+            return i;
+        }
     }
-    libc::close(fd);
-    input
+    usize::MAX
+}
+
+// Puts argument i at the start of the buffer and answers its length.
+pub fn argument(rt: &HostRuntime, i: usize, buf: &mut [u8]) -> io::Result<usize>
+    ensures { IfOk result (λ n. IsPrefixLen n buf.new) }
+{
+    match rt.arg(i, buf) {
+        Ok(n) => Ok(n),
+        Err(FillError::NotPresent) => Err(io::Error::from_raw_os_error(MISSING)),
+        Err(FillError::TooLong) => Err(io::Error::from_raw_os_error(TOO_LONG)),
+    }
 }
 
 // Reads the file that argument i names; `what` stands for it where the argument itself is at fault.
-pub fn read_argument(i: usize, what: &[u8], buf: &mut [u8]) -> Input
+pub fn read_argument(rt: &HostRuntime, i: usize, what: &[u8], buf: &mut [u8]) -> Input
     ensures { Within result buf.new }
 {
-    let mut name = io::buffer();
-    let n = os::arg(i, &mut name);
-    if os::errno() != 0 {
-        os::fail(what);
-        return Input::Unreadable;
+    let mut name = [0u8; ARGUMENT];
+    match argument(rt, i, &mut name) {
+        Ok(0) => {
+            complain(rt, b"an empty file name\n");
+            Input::Unreadable
+        }
+        Ok(n) => read_file(rt, &name[..n], buf),
+        Err(error) => {
+            tell(rt, what, error);
+            Input::Unreadable
+        }
     }
-    if n == 0 {
-        complain(b"an empty file name\n");
-        return Input::Unreadable;
-    }
-    read_file(&name[..n], buf)
 }
 
 // Writes the first n bytes of a buffer to standard output; where that fails, a line on the error output says so.
-pub fn write(buf: &[u8], n: usize) -> bool
+pub fn write(rt: &HostRuntime, buf: &[u8], n: usize) -> bool
     requires { n ≤ length buf.now }
 {
-    let done = io::write_all(1, &buf[..n]);
-    if !done {
-        os::fail(b"standard output");
+    match rt.stdout().write_all(&buf[..n]) {
+        Ok(()) => true,
+        Err(error) => {
+            tell(rt, b"standard output", error);
+            false
+        }
     }
-    done
 }
 
 // Writes the line of a refusal to standard output.
-pub fn write_refusal(r: Refusal) -> bool {
+pub fn write_refusal(rt: &HostRuntime, r: Refusal) -> bool {
     let mut line = [0u8; lines::REFUSAL];
     let n = lines::put_refusal(&mut line, 0, r);
-    write(&line, n)
+    write(rt, &line, n)
 }
 
 // Writes a line to the error output.
-pub fn complain(line: &[u8]) {
-    io::write_all(2, line);
+pub fn complain(rt: &HostRuntime, line: &[u8]) {
+    let _ = rt.stderr().write_all(line);
 }
