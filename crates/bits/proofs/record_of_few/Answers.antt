@@ -28,13 +28,10 @@ module _ (q : Float) (fit : T (fits binary64 q)) where
 
 pub cut_whole-requires : goal.cut_whole-requires
 cut_whole-requires c =
-    
     fields c.args.q (yes c.well_formed.0.1) c.whole_double.result c.args.n c.requires.1 c.requires.0 c.whole_double.ensures c.if-q.true c.if-q-whole_double.true
 
 pub returns-then-q-whole_double : goal.returns-then-q-whole_double
 returns-then-q-whole_double c =
-    
-    
     let a = c.args in
     omega (
       arith,

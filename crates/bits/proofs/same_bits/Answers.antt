@@ -22,5 +22,4 @@ float_to_bits-result-2 c = is_number c.args.b c.if-b.false
 -- the two patterns; `.good` has a part for each parameter, nested to the right
 pub returns : goal.returns
 returns c =
-    
     bits_same c.args.a c.args.b (yes c.well_formed.0.1) (yes c.well_formed.1.0.1) (is_number c.args.a c.if-a.false)

@@ -7,18 +7,15 @@ use Rattle.cheby.proofs.row_clear.Goals as goal
 
 pub clear_at-requires : goal.clear_at-requires
 clear_at-requires c =
-    
     let args = c.args in
     (omega arith, clear_at args.kernel.now args.p (3 * args.n) args.k _ c.requires.2 (omega arith) (omega arith))
 
 pub clear_at-requires-2 : goal.clear_at-requires-2
 clear_at-requires-2 c =
-    
     let args = c.args in
     (omega arith, clear_at args.kernel.now args.p (3 * args.n) (args.n + args.k) _ c.requires.2 (omega arith) (omega arith))
 
 pub clear_at-requires-3 : goal.clear_at-requires-3
 clear_at-requires-3 c =
-    
     let args = c.args in
     (omega arith, clear_at args.kernel.now args.p (3 * args.n) (2 * args.n + args.k) _ c.requires.2 (omega arith) (omega arith))

@@ -13,7 +13,6 @@ loop-k-init c =
 
 pub loop-k-preserved : goal.loop-k-preserved
 loop-k-preserved c =
-    
     let inv = c.loop-k.invariant in
     let j = inv.0 in
     let s₁ = six_summed _ _ _ _ _ j inv.1 inv.4 c.six_more-z.ensures in

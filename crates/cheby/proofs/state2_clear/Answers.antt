@@ -8,19 +8,16 @@ use Rattle.cheby.proofs.state2_clear.Goals as goal
 
 pub clear_at-mid-requires : goal.clear_at-mid-requires
 clear_at-mid-requires c =
-    
     let a = c.args in
     (omega arith, clear_at a.kernel.now a.p (2 + 3 * a.n) 0 a.p c.requires.3 (omega arith) (omega arith))
 
 pub clear_at-radius-requires : goal.clear_at-radius-requires
 clear_at-radius-requires c =
-    
     let a = c.args in
     (omega arith, clear_at a.kernel.now a.p (2 + 3 * a.n) 1 (a.p + 8) c.requires.3 (omega arith) (omega arith))
 
 pub val_and_deriv_clear-v-requires : goal.val_and_deriv_clear-v-requires
 val_and_deriv_clear-v-requires c =
-    
     let a = c.args in
     (omega arith, omega arith, numbers_part a.kernel.now a.p (2 + 3 * a.n) (a.p + 16) 2 (3 * a.n) c.requires.3 (omega arith) (omega arith))
 

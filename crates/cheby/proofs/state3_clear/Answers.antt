@@ -8,19 +8,16 @@ use Rattle.cheby.proofs.state3_clear.Goals as goal
 
 pub clear_at-mid-requires : goal.clear_at-mid-requires
 clear_at-mid-requires c =
-    
     let a = c.args in
     (omega arith, clear_at a.kernel.now a.p (2 + 6 * a.n) 0 a.p c.requires.2 (omega arith) (omega arith))
 
 pub clear_at-radius-requires : goal.clear_at-radius-requires
 clear_at-radius-requires c =
-    
     let a = c.args in
     (omega arith, clear_at a.kernel.now a.p (2 + 6 * a.n) 1 (a.p + 8) c.requires.2 (omega arith) (omega arith))
 
 pub six_clear-r-requires : goal.six_clear-r-requires
 six_clear-r-requires c =
-    
     let a = c.args in (
       omega arith,
       record {

@@ -14,9 +14,6 @@ loop-k-init c =
 
 pub loop-k-preserved : goal.loop-k-preserved
 loop-k-preserved c =
-    
-    
-    
     let inv = c.loop-k.invariant in
     let j = inv.0 in
     let s₁ = turned_summed _ _ _ _ j inv.1 c.row_clear.ensures inv.4 c.turned-z.ensures in

@@ -12,7 +12,6 @@ use Rattle.hermite.proofs.axis_at.Goals as goal
 
 pub loop-k-init : goal.loop-k-init
 loop-k-init c =
-    
     let column = c.first_column.ensures in
     let args = c.args in
     let s = args.kernel.now in
@@ -21,10 +20,8 @@ loop-k-init c =
 
 pub loop-k-preserved : goal.loop-k-preserved
 loop-k-preserved c =
-    
     let column = c.next_column in
     let column' = c.next_column-in-loop-k in
-    
     let k = c.loop-k.k in
     let inv = c.loop-k.invariant in
     let odd = inv.1 in
@@ -34,7 +31,6 @@ loop-k-preserved c =
 
 pub returns : goal.returns
 returns c =
-    
     let args = c.args in
     let inv = c.loop-k.invariant in
     (inv.0, at_end args.c (omega arith) inv.3)

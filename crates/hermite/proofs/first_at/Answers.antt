@@ -15,8 +15,6 @@ returns-then-i-eq0 c =
 
 pub returns : goal.returns
 returns c =
-    
-    
     let args = c.args in
     let s = args.kernel.now in
     rw (c.double_at-2.ensures, c.double_at-3.ensures)

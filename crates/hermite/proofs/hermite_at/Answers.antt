@@ -10,9 +10,6 @@ use Rattle.hermite.proofs.hermite_at.Goals as goal
 
 pub loop-j-preserved : goal.loop-j-preserved
 loop-j-preserved c =
-    
-    
-    
     let args = c.args in
     let inv = c.loop-j.invariant in
     let z = c.nodes_at.new.z in
