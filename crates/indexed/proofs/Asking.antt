@@ -36,7 +36,7 @@ use Rattle.spk.specs.Turning.{turned_asked}
 use Rattle.spk.specs.Runs.{Asking, Plain, InFrame, Single, fresh, replied, run}
 use Rattle.spk.proofs.Finding.{at_place, no_place, recall_within, failed_first, asked_early, late}
 use Rattle.spk.proofs.NoMemory.{no_memory}
-use Rattle.indexed.specs.Stepping.{step_by, to_zero_by}
+use Rattle.indexed.specs.Stepping.{step_by}
 use Rattle.indexed.specs.Asking.{last_found, forward_found, chained_by, back_or, backward_by, ahead_or, chosen_asked, asked_through, asked_with, replied_with, run_with}
 use Rattle.indexed.proofs.Stepping.{on_by, begin_by, to_zero_by_index}
 

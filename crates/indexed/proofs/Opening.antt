@@ -2,11 +2,9 @@
 use mathlib.Core.Path.{◌≡◌, refl, sym, ap, ap₂, subst, ◌∙◌}
 use mathlib.Core.Bool.{Bool, true, false, cond, not, true≢false, false≢true}
 use mathlib.Core.List.{List}
-use Prim.Native.Nat.{ℕ, suc, ◌-◌, ◌≤◌, ◌<◌}
+use Prim.Native.Nat.{ℕ, ◌≤◌, ◌<◌}
 use native.Mathlib.Omega.{arith}
-use lib.Dec.{ltb}
 use lib.ListN.{length}
-use borrow.Author.Tests.{ltb-true, ltb-false}
 use Rattle.bits.proofs.Tests.{by_test_lem}
 use Rattle.daf.specs.declared.Family.{Family}
 use Rattle.daf.specs.declared.Family.TheVariants.{Spk, Pck}
@@ -38,19 +36,13 @@ others_told segs n i ix right roomy =
     let b = roomy.bucket in
     others_by_index (marked_to segs n i) (seg (marked_to segs n i) i) i n _ _ (indexed_marked segs n i _ _ right.down) (omega arith)
 
-pub marks_nothing : (segs : List Segment) (n : ℕ) → ltb n 1 ≡ true → segs ≡ marked_to segs n n
-marks_nothing segs n e = let l = ltb-true n 1 e in marked_none segs n ∙ ap (marked_to segs n) {x = 0} {y = n} (omega arith)
-
-pub some_less : (n : ℕ) → ltb n 1 ≡ false → 0 < n
-some_less n e = let l = ltb-false n 1 e in omega arith
+pub marks_nothing : (segs : List Segment) (n : ℕ) → n < 1 → segs ≡ marked_to segs n n
+marks_nothing segs n l = marked_none segs n ∙ ap (marked_to segs n) {x = 0} {y = n} (omega arith)
 
 -- ---- the index
 pub filled_told : (segs : List Segment) (n : ℕ) (ix : List ℕ) → joined segs n n (emptied (quarter ix) ix) ≡ filled_index segs n ix
 unfolding filled_index
 filled_told segs n ix = refl
-
-pub mirror_less : (n i : ℕ) → i < n → n - suc i < n
-mirror_less n i l = omega arith
 
 pub limit_less : (n : ℕ) → n ≤ lent_limit → n < 65535
 limit_less n l = omega arith

@@ -37,13 +37,6 @@ module _ (next : Step) (n : ℕ) (above : List ℕ) (i : ℕ) where
       go true = omega arith
       go false = omega (arith, (rises n i (get_or above i 0) h).0)
 
-  pub by_most : i < n → place_by next n above i ≤ n
-  by_most h = go (is_end next)
-    where
-      go : (b : Bool) → cond b n (next_up n above i) ≤ n
-      go true = omega arith
-      go false = (rises n i (get_or above i 0) h).1
-
 module _ (ev : Evaluation) (segs : List Segment) (leg : Leg) where
   -- ---- a turn of the loop
   pub over_none : (kept : Step) → step_over ev segs leg kept [] ≡ kept

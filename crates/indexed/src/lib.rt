@@ -1,5 +1,5 @@
 // Openings and questions with an index that the caller lends beside the table: `lent`'s, by the segments that the index names alone.
-// The functions over a slice of segments are thin and proved by hand, as in `lent`.
+// Each function is thin, as in `lent`.
 
 #![tactic(auto)]
 
