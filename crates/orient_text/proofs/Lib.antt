@@ -1,6 +1,4 @@
 -- Laws that belong to no one function.
-pub mod Calls
-pub mod CallsMut
 pub mod Replies
 pub mod Turns
 pub mod TwoAnswers
