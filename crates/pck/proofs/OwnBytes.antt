@@ -24,17 +24,17 @@ abbrev pub Alike : List ℕ → List ℕ → List Segment → Choice → Type 0
 Alike k k' segs (At i) = Agrees k k' (nat_abs (seg segs i).start) (nat_abs (seg segs i).end)
 Alike k k' segs Nothing = Unit {0}
 
-by_own : (k k' : List ℕ) (segs : List Segment) (q : Question) (c : Choice) → Alike k k' segs c → oriented_by k segs q c ≡ oriented_by k' segs q c
-by_own k k' segs q (At i) a = ap (settled (seg segs i)) (own_bytes Pck k k' (seg segs i) i q.et a)
-by_own k k' segs q Nothing a = refl
-
 -- **own-bytes**: two kernels that are alike in the chosen segment give the same orientation, refusal or answer.
 pub oriented_own : (limit : ℕ) (k k' : List ℕ) (segs : List Segment) (n : ℕ) (q : Question) → Alike k k' segs (chosen segs n q)
     → oriented limit k segs n q ≡ oriented limit k' segs n q
 unfolding oriented
 oriented_own limit k k' segs n q a =
     ap (λ (x : Oriented). first_of (case (ltb limit n) TableUnfit ∷ case (is_nan q.et) EpochNan ∷ []) refused_oriented x)
-    (by_own k k' segs q (chosen segs n q) a)
+    (by (chosen segs n q) a)
+  where
+    by : (c : Choice) → Alike k k' segs c → oriented_by k segs q c ≡ oriented_by k' segs q c
+    by (At i) b = ap (settled (seg segs i)) (own_bytes Pck k k' (seg segs i) i q.et b)
+    by Nothing b = refl
 
 -- The same of a segment alone: it depends on its own doubles.
 pub alone_own_bytes : (limit : ℕ) (k k' : List ℕ) (segs : List Segment) (n i : ℕ) (et : Float) → Alike k k' segs (At i)

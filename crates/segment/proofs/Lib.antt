@@ -14,6 +14,7 @@ pub mod Refusals
 pub mod Inside
 pub mod Opened
 pub mod Plain
+pub mod OwnSteps
 pub mod OwnBytes
 pub mod Told
 pub mod Before
