@@ -1,8 +1,12 @@
 -- The loop over the questions: the lines that are left at question i, with what is remembered there. Assumes nothing.
-use mathlib.Core.Path.{◌≡◌, refl, ap, ◌∙◌}
-use Prim.Native.Nat.{ℕ, suc, ◌-◌, ◌≤◌, ◌<◌}
+use mathlib.Core.Path.{◌≡◌, refl, sym, ap, ◌∙◌, subst}
+use Prim.Native.Nat.{ℕ, suc, ◌+◌, ◌-◌, ◌≤◌, ◌<◌}
 use mathlib.Core.List.{List, [], ◌++◌}
 use native.Mathlib.Omega.{arith}
+use Rattle.std.proofs.Common.{append_assoc}
+use Rattle.std.proofs.lemmas.List.{append-nil}
+use Rattle.lines.specs.Written.{Written}
+use Rattle.lines.proofs.Texts.{then}
 use Rattle.frame.specs.Frame.{Matrix}
 use Rattle.segment.specs.declared.Segment.{Segment}
 use Rattle.chain.specs.Step.{Evaluation}
@@ -43,3 +47,24 @@ module _ (limit : ℕ) (ev : Evaluation) (segs : List Segment) (n : ℕ) (ix : L
     -- before the first
     pub first_line : (c : Memory) → lines_from 0 c m ≡ lines_from 0 c (m - 0)
     first_line c = ap (lines_from 0 c) {x = m} {y = m - 0} (omega arith)
+
+    -- one line more is put: what is put and what is left make all the lines
+    pub put_more : {before middle after : List ℕ} {at next i : ℕ} (start c d : Memory) {r : Asked} (text : List ℕ) → i < m → r ≡ asked_at i c → d ≡ r.memory
+        → Written before 0 text middle at → Written middle at (answer_text i r.answer) after next → lines_from 0 start m ≡ text ++ lines_from i c (m - i)
+        → (whole : List ℕ) × Written before 0 whole after next × (lines_from 0 start m ≡ whole ++ lines_from (i + 1) d (m - (i + 1)))
+    put_more {i = i} start c d {r = r} text less got kept put line e =
+        let up : suc i ≡ i + 1 = omega arith in (
+          text ++ answer_text i r.answer,
+          then put line,
+          e ∙ ap (λ (l : List ℕ). text ++ l) (next_line i c less)
+              ∙ ap (λ (x : Asked). text ++ (answer_text i x.answer ++ lines_from (suc i) x.memory (m - suc i))) (sym got)
+              ∙ ap (λ (x : Memory). text ++ (answer_text i r.answer ++ lines_from (suc i) x (m - suc i))) (sym kept)
+              ∙ ap (λ (k : ℕ). text ++ (answer_text i r.answer ++ lines_from k d (m - k))) up
+              ∙ sym (append_assoc text (answer_text i r.answer) (lines_from (i + 1) d (m - (i + 1)))),
+        )
+
+    -- all are put
+    pub put_all : {before after : List ℕ} {next i : ℕ} (start c : Memory) (text : List ℕ) → m ≤ i
+        → Written before 0 text after next → lines_from 0 start m ≡ text ++ lines_from i c (m - i) → Written before 0 (lines_from 0 start m) after next
+    put_all {before} {after} {next} {i} start c text most put e =
+        subst (λ (l : List ℕ). Written before 0 l after next) (sym (e ∙ ap (λ (l : List ℕ). text ++ l) (last_line i c most) ∙ append-nil text)) put

@@ -7,3 +7,4 @@ pub mod Orienting
 pub mod Opening
 pub mod Refusals
 pub mod TwoAnswers
+pub mod Filled

@@ -1,8 +1,12 @@
 -- The loop over the questions: the lines that are left at question i. Assumes nothing.
-use mathlib.Core.Path.{◌≡◌, refl, ap, ◌∙◌}
-use Prim.Native.Nat.{ℕ, suc, ◌-◌, ◌≤◌, ◌<◌}
+use mathlib.Core.Path.{◌≡◌, refl, sym, ap, ◌∙◌, subst}
+use Prim.Native.Nat.{ℕ, suc, ◌+◌, ◌-◌, ◌≤◌, ◌<◌}
 use mathlib.Core.List.{List, [], ◌++◌}
 use native.Mathlib.Omega.{arith}
+use Rattle.std.proofs.Common.{append_assoc}
+use Rattle.std.proofs.lemmas.List.{append-nil}
+use Rattle.lines.specs.Written.{Written}
+use Rattle.lines.proofs.Texts.{then}
 use Rattle.segment.specs.declared.Segment.{Segment}
 use Rattle.pck.specs.declared.Oriented.{Oriented}
 use Rattle.indexed.specs.Orienting.{oriented_with}
@@ -38,3 +42,23 @@ module _ (limit : ℕ) (kernel : List ℕ) (segs : List Segment) (n : ℕ) (ix a
     -- before the first
     pub first_line : lines_from 0 m ≡ lines_from 0 (m - 0)
     first_line = ap (lines_from 0) {x = m} {y = m - 0} (omega arith)
+
+    -- one line more is put: what is put and what is left make all the lines
+    pub put_more : {before middle after : List ℕ} {at next i : ℕ} {r : Oriented} (text : List ℕ) → i < m → r ≡ turned_at i
+        → Written before 0 text middle at → Written middle at (oriented_text i r) after next → lines_from 0 m ≡ text ++ lines_from i (m - i)
+        → (whole : List ℕ) × Written before 0 whole after next × (lines_from 0 m ≡ whole ++ lines_from (i + 1) (m - (i + 1)))
+    put_more {i = i} {r = r} text less got put line e =
+        let up : suc i ≡ i + 1 = omega arith in (
+          text ++ oriented_text i r,
+          then put line,
+          e ∙ ap (λ (l : List ℕ). text ++ l) (next_line i less)
+              ∙ ap (λ (x : Oriented). text ++ (oriented_text i x ++ lines_from (suc i) (m - suc i))) (sym got)
+              ∙ ap (λ (k : ℕ). text ++ (oriented_text i r ++ lines_from k (m - k))) up
+              ∙ sym (append_assoc text (oriented_text i r) (lines_from (i + 1) (m - (i + 1)))),
+        )
+
+    -- all are put
+    pub put_all : {before after : List ℕ} {next i : ℕ} (text : List ℕ) → m ≤ i
+        → Written before 0 text after next → lines_from 0 m ≡ text ++ lines_from i (m - i) → Written before 0 (lines_from 0 m) after next
+    put_all {before} {after} {next} {i} text most put e =
+        subst (λ (l : List ℕ). Written before 0 l after next) (sym (e ∙ ap (λ (l : List ℕ). text ++ l) (last_line i most) ∙ append-nil text)) put

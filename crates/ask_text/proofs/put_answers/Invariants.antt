@@ -5,7 +5,7 @@ use Rattle.segment.specs.Evaluating.{evaluated}
 use Rattle.table.specs.Places.{limit_of}
 use Rattle.spk.specs.declared.Memory.TheVariants.{Blank}
 use Rattle.lines.specs.Written.{Written}
-use Rattle.ask_text.specs.Rooms.{answer_room}
+use Rattle.ask_text.specs.Lines.{answer_room}
 use Rattle.ask_text.proofs.Turns.{lines_from}
 use Rattle.ask_text.proofs.put_answers.Given as goal
 

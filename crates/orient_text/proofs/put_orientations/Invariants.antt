@@ -2,7 +2,7 @@
 use Rattle.std.proofs.Common.{◌≡◌, ℕ, ◌≤◌, ◌*◌, ◌-◌, ◌++◌, List, length}
 use Rattle.table.specs.Places.{limit_of}
 use Rattle.lines.specs.Written.{Written}
-use Rattle.orient_text.specs.Rooms.{oriented_room}
+use Rattle.orient_text.specs.Lines.{oriented_room}
 use Rattle.orient_text.proofs.Turns.{lines_from}
 use Rattle.orient_text.proofs.put_orientations.Given as goal
 

@@ -18,9 +18,9 @@ by-outcome i a e = sym (ap (outcome_text i a) e)
 pub returns-in-Turned-clause-written : goal.returns-in-Turned-clause-written
 returns-in-Turned-clause-written c =
     let a = c.args in subst (λ (l : List ℕ). Written a.out.now a.at l c.put_turned.new.out c.put_turned.result) (by-outcome a.i a.a c.in-Turned.is)
-          c.put_turned.ensures.written
+    c.put_turned.ensures.written
 
 pub returns-in-Refused-clause-written : goal.returns-in-Refused-clause-written
 returns-in-Refused-clause-written c =
     let a = c.args in subst (λ (l : List ℕ). Written a.out.now a.at l c.put_numbered_refusal.new.out c.put_numbered_refusal.result) (by-outcome a.i a.a c.in-Refused.is)
-          c.put_numbered_refusal.ensures.written
+    c.put_numbered_refusal.ensures.written
