@@ -10,7 +10,7 @@ if [ ! -x target/bin/listing ] || [ ! -x target/bin/ask ]; then
     exit 2
   fi
   echo "proving and building listing and ask: some minutes" >&2
-  rt check listing ask >&2
+  tools/build.sh listing ask
 fi
 run=$(tests/emulator.sh)
 kernel=tests/sample/de405.bsp questions=tests/sample/de405.questions matrix=tests/sample/eclipj2000.matrix

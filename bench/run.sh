@@ -5,10 +5,10 @@ set -eu
 here=$(cd "$(dirname "$0")" && pwd)
 cd "$here"
 ../tests/oracle/setup.sh > /dev/null
-(cd .. && rt check replay_measure > /dev/null)
+../tools/build.sh replay_measure
 python3 scenarios.py target/scenarios
 rust=../tests/oracle/target/x86_64-unknown-linux-gnu/release/bench
-ours=../target/bin/replay_measure
+ours=../target/bin/replay_measure object=../crates/replay_measure/out/replay_measure.o
 
 files() { echo "target/scenarios/$1.kernel target/scenarios/$1.questions"; }
 # Our side says on the error output where a question or a kernel is refused: then nothing is counted. Sixteen passes ask each question once; a kernel of
@@ -66,14 +66,17 @@ done < target/scenarios/usage.tsv
 machine=$(uname -m)
 echo
 echo "Nanoseconds on this machine ($machine, $(sed -n 's/^model name[^:]*: //p' /proc/cpuinfo | head -n 1)), both sides compiled for it."
-if [ "$machine" != x86_64 ]; then
-  echo "The toolchain makes programs for x86-64 alone: ours is here the module that it compiles, compiled for this machine and not proved anew."
-fi
 echo
-./native.sh target/native
-python3 times.py target/native ../tests/oracle/target/release/bench target/scenarios
+timed=yes
+if ./native.sh target/native; then
+  python3 times.py target/native ../tests/oracle/target/release/bench target/scenarios
+else
+  timed=no
+  echo "No times: there is no program of ours for this machine."
+fi
 
 echo
 echo "Stack, from the x86-64 machine code; on another machine the frames differ, and this run does not measure them."
 echo
-python3 stack.py ../target/obj/replay_measure.o
+python3 stack.py "$object"
+[ "$timed" = yes ]

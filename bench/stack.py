@@ -1,8 +1,8 @@
 #!/usr/bin/env python3
 """stack.py OBJECT: the bytes of stack that one call of each entry point needs, as a Markdown table.
 
-OBJECT is the x86-64 object of `replay_measure` as `rt check` makes it (target/obj/replay_measure.o). Its machine code is read: a function's
-frame is what it pushes and takes off the stack pointer, a call adds its return address and the callee's need, and the
+OBJECT is the x86-64 object of `replay_measure` that tools/build.sh leaves (crates/replay_measure/out/replay_measure.o). Its machine code is read: a
+function's frame is what it pushes and takes off the stack pointer, a call adds its return address and the callee's need, and the
 deepest way counts; of a question of one type, the deepest that such a segment takes. Where a walk calls itself, once for
 each of up to 32 steps, its frame counts 33 times; the compiler may have made a loop of it. The C library's functions,
 which copy and clear, are counted as none.
@@ -49,7 +49,7 @@ def functions(text):
         if head:
             current, depth, probe = out.setdefault(head[1], Function()), 0, 0
             continue
-        reloc = re.search(r"R_X86_64_(?:PLT|PC)32\s+(?:\.text\.)?(\S+?)-0x4", line)
+        reloc = re.search(r"R_X86_64_(?:PLT|PC)32\s+(?:\.text\.(?:unlikely\.)?)?(\S+?)-0x4", line)
         if reloc and current:
             current.calls.add(reloc[1])
             continue

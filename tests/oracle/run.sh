@@ -5,7 +5,7 @@ set -eu
 here=$(cd "$(dirname "$0")" && pwd)
 cd "$here"
 ./setup.sh
-(cd ../.. && rt check ask orient listing replay_cases replay_wide)
+../../tools/build.sh ask orient listing replay_cases replay_wide
 run=$(../emulator.sh)
 bin=$here/../../target/bin
 python3 departures.py --run "$run" --ask "$bin/ask" --orient "$bin/orient"
