@@ -13,9 +13,10 @@ import subprocess
 import sys
 
 OBJDUMP = "x86_64-linux-gnu-objdump"
-STEPS = {"lent::walk": 33, "indexed::walk": 33}
+WALK = "chain::walking::walk"
+STEPS = {WALK: 33}
 # The functions that a way leaves out: the chain; Hermite, where no segment has type 13; the tests themselves, where a segment plainly fits.
-CHAIN = {"lent::walk"}
+CHAIN = {WALK}
 HERMITE = {"hermite::hermite_at", "hermite::axis_at"}
 TESTS = {"segment::evaluate_any", "segment::evaluating::evaluate_any"}
 # What is called, its function, and what it leaves out.
@@ -25,9 +26,8 @@ ENTRIES = [
     ("of it, one segment of type 9", "lent::state", CHAIN | HERMITE),
     ("of it, one segment of type 13", "lent::state", CHAIN),
     ("of it, the evaluation of a segment", "segment::evaluate", set()),
-    ("of it, a chain of 32 steps", "lent::walk", set()),
+    ("of it, a chain of 32 steps", WALK, set()),
     ("a question through an index", "indexed::state", set()),
-    ("of it, a chain of 32 steps", "indexed::walk", set()),
     ("an orientation (`orient`)", "lent::orient", HERMITE),
     ("of it, a segment that plainly fits", "lent::orient", TESTS),
     ("an opening: the plan", "opening::plan_of", set()),
@@ -59,7 +59,7 @@ def functions(text):
         code = word[0]
         far = re.match(r"sub +\$0x([0-9a-f]+),%r11", code)
         sub = re.match(r"sub +\$0x([0-9a-f]+),%rsp", code)
-        near = re.match(r"call +[0-9a-f]+ <([^+>]+)>", code)
+        near = re.match(r"call +[0-9a-f]+ <([^+]+)>$", code)
         if far:
             # a large frame is taken page by page, in a loop: that many bytes in all
             probe = int(far[1], 16)
@@ -74,17 +74,22 @@ def functions(text):
     return out
 
 
+def plain(name):
+    """The name of a generic function, without what it was compiled for."""
+    return re.sub(r"::<#[0-9a-f]+>$", "", name)
+
+
 def need(table, name, seen=()):
     """The bytes of the deepest way from a call on that calls none of the functions seen, its return address included, and that way."""
     here = table[name]
     best, way = 0, []
     for callee in here.calls:
-        if callee in table and callee != name and callee not in seen:
-            n, w = need(table, callee, seen + (name,))
+        if callee in table and callee != name and plain(callee) not in seen:
+            n, w = need(table, callee, seen + (plain(name),))
             if n > best:
                 best, way = n, w
-    times = STEPS.get(name, 1) if name in here.calls else 1
-    return times * (8 + here.frame) + best, [(name, here.frame)] + way
+    times = STEPS.get(plain(name), 1) if name in here.calls else 1
+    return times * (8 + here.frame) + best, [(plain(name), here.frame)] + way
 
 
 def main():
@@ -93,8 +98,10 @@ def main():
     print("| one call of | bytes of stack | deepest way, with each frame |")
     print("|---|---|---|")
     for what, name, left_out in ENTRIES:
-        if name in table:
-            n, way = need(table, name, tuple(left_out))
+        compiled = [f for f in table if plain(f) == name]
+        if compiled:
+            # of a function that was compiled for the lent table and for an index the deeper one
+            n, way = max(need(table, f, tuple(left_out)) for f in compiled)
             print(f"| {what} | {n:,} | {', '.join(f'`{w}` {f:,}' for w, f in way)} |")
         else:
             print(f"| {what} | | `{name}` has no frame of its own: it is part of its caller |")

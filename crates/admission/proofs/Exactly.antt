@@ -2,6 +2,7 @@
 --     plan_18, plan_opening, plan_19, plan_other        of a plan, for a kernel of either family, records of any size and mark, any limit
 --     opened_18, opened_opening, opened_19, opened_other    of the table by value
 -- Assumes nothing.
+use Rattle.std.proofs.Common.{Ok, Err}
 use Prim.Native.Nat.{ℕ, zero, suc, ◌/◌, ◌%◌, ◌≤◌, ◌<◌}
 use mathlib.Core.Path.{◌≡◌, refl, sym, ap, ◌∙◌, subst}
 use mathlib.Core.Bool.{Bool, true, false, not, ◌&&◌, ◌||◌, true≢false}
@@ -21,12 +22,9 @@ use Rattle.refusal.proofs.Exactly.{given_where, given_only, given_some}
 use Rattle.daf.specs.declared.Family.{Family}
 use Rattle.table.specs.Places.{table_limit}
 use Rattle.table.specs.declared.Table.{Table}
-use Rattle.opening.specs.declared.Found.TheVariants as found
-use Rattle.opening.specs.declared.Plan.{Plan}
-use Rattle.opening.specs.declared.Plan.TheVariants.{Fill, Refuse}
 use Rattle.opening.specs.Lent as lent
 use Rattle.opening.specs.Opening.{places_of, refused_opening, accepted_opening, marked_for, table_of, segments_of, open_cases}
-use Rattle.opening.specs.Steps.{start_of}
+use Rattle.opening.specs.Steps.{Plan, filling, start_of}
 use Rattle.opening.proofs.Planned.{none_answer}
 use Rattle.opening.proofs.Exact.{one_refusal, no_refusal, found_some, found_where, found_accepted}
 use Rattle.records.specs.declared.Mark.{Mark}
@@ -157,7 +155,7 @@ module _ {A : Type 0} (refused : Refusal → A) (answer : A) (one : (r s : Refus
           record {
             short = short_only kernel file h.0;
             count = length (places_of kernel);
-            accepted = none_answer (open_cases f limit kernel) found.Refused (found.Accepted (length (places_of kernel))) b.0;
+            accepted = none_answer (open_cases f limit kernel) Err (Ok (length (places_of kernel))) b.0;
             bad = bad_only size mark file (not_true (records_fit size mark file) b.1);
           }
 
@@ -202,38 +200,38 @@ module _ {A : Type 0} (refused : Refusal → A) (answer : A) (one : (r s : Refus
                   short = short_only kernel file h.0;
                   refused =
                       found_where f limit kernel i (before (open_cases f limit kernel) (record_cases size mark file) i b h.1)
-                      ∙ ap found.Refused (sym (x ∙ given_append (open_cases f limit kernel) (record_cases size mark file) i b));
+                      ∙ ap Err (sym (x ∙ given_append (open_cases f limit kernel) (record_cases size mark file) i b));
                 }
             | no b ↦ absurd (at_19 i (omega arith) x)
           ]
 
 -- ---- a plan with 18 before it: by this the outputs of `ask` and `orient` are refused (`output_refused` of `ask_text` and of `orient_text`)
-one_plan : (r s : Refusal) → ◌≡◌ {A = Plan} (Refuse r) (Refuse s) → r ≡ s
+one_plan : (r s : Refusal) → ◌≡◌ {A = Plan} (Err r) (Err s) → r ≡ s
 one_plan r s e = cc
 
 module _ (f : Family) (limit size : ℕ) (mark : Mark) (kernel file : List ℕ) where
-  fills : (r : Refusal) → Fill (length (places_of kernel)) (start_of kernel) ≡ Refuse r → ⊥
+  fills : (r : Refusal) → Ok (filling (length (places_of kernel)) (start_of kernel)) ≡ Err r → ⊥
   fills r e = let z : ◌≡◌ {A = ℕ} 0 1 = cc in omega arith
 
   -- **exactly-when**, 18
-  pub plan_18 : When18 kernel file ↔ (plan_for f limit size mark kernel file ≡ Refuse InputTooLong)
+  pub plan_18 : When18 kernel file ↔ (plan_for f limit size mark kernel file ≡ Err InputTooLong)
   unfolding plan_for run_plan
-  plan_18 = by_18 Refuse _ one_plan fills f limit size mark kernel file
+  plan_18 = by_18 Err _ one_plan fills f limit size mark kernel file
 
   -- **exactly-when**, 1 to 9
-  pub plan_opening : (r : Refusal) → number_of r ≤ 9 → WhenOpening f limit size mark kernel file r ↔ (plan_for f limit size mark kernel file ≡ Refuse r)
+  pub plan_opening : (r : Refusal) → number_of r ≤ 9 → WhenOpening f limit size mark kernel file r ↔ (plan_for f limit size mark kernel file ≡ Err r)
   unfolding plan_for run_plan
-  plan_opening = by_opening Refuse _ one_plan fills f limit size mark kernel file
+  plan_opening = by_opening Err _ one_plan fills f limit size mark kernel file
 
   -- **exactly-when**, 19
-  pub plan_19 : When19 f limit size mark kernel file ↔ (plan_for f limit size mark kernel file ≡ Refuse BadRecord)
+  pub plan_19 : When19 f limit size mark kernel file ↔ (plan_for f limit size mark kernel file ≡ Err BadRecord)
   unfolding plan_for run_plan
-  plan_19 = by_19 Refuse _ one_plan fills f limit size mark kernel file
+  plan_19 = by_19 Err _ one_plan fills f limit size mark kernel file
 
   -- no other number
-  pub plan_other : (r : Refusal) → plan_for f limit size mark kernel file ≡ Refuse r → ProgramNumber (number_of r)
+  pub plan_other : (r : Refusal) → plan_for f limit size mark kernel file ≡ Err r → ProgramNumber (number_of r)
   unfolding plan_for run_plan
-  plan_other = by_other Refuse _ one_plan fills f limit size mark kernel file
+  plan_other = by_other Err _ one_plan fills f limit size mark kernel file
 
 -- ---- with the table by value
 module _ (f : Family) (size : ℕ) (mark : Mark) (kernel file : List ℕ) where

@@ -1,9 +1,8 @@
 -- When a program refuses its files with 18, when with 19, and when with the opening's refusal: what the statements say. Assumes nothing: these are
 -- definitions.
-use Rattle.std.specs.Prelude.{ℕ, ◌/◌, ◌%◌, ◌≤◌, ◌<◌, ◌≡◌, false, ◌⊎◌, List, length}
+use Rattle.std.specs.Prelude.{ℕ, ◌/◌, ◌%◌, ◌≤◌, ◌<◌, ◌≡◌, false, ◌⊎◌, List, length, Ok, Err}
 use Rattle.refusal.specs.declared.Refusal.{Refusal}
 use Rattle.daf.specs.declared.Family.{Family}
-use Rattle.opening.specs.declared.Found.TheVariants.{Accepted, Refused}
 use Rattle.opening.specs.Lent.{found}
 use Rattle.records.specs.declared.Mark.{Mark}
 use Rattle.records.specs.Records.{is_marked}
@@ -37,13 +36,13 @@ module _ (f : Family) (limit size : ℕ) (mark : Mark) (kernel file : List ℕ) 
   -- The opening's refusal: no file is too long, and the opening is refused so.
   pub record WhenOpening (r : Refusal) : Type 0 where
     pub short : Short kernel file
-    pub refused : found f limit kernel ≡ Refused r
+    pub refused : found f limit kernel ≡ Err r
 
   -- 19: no file is too long, the opening is accepted, and a record is bad.
   pub record When19 : Type 0 where
     pub short : Short kernel file
     pub count : ℕ
-    pub accepted : found f limit kernel ≡ Accepted count
+    pub accepted : found f limit kernel ≡ Ok count
     pub bad : BadFile size mark file
 
 -- The numbers that are given: the opening's 1 to 9, 18 and 19.

@@ -12,15 +12,13 @@ use records::Mark;
 use refusal::Refusal;
 use table::Table;
 
-// What becomes of a run with a matrix file.
+// Why a run with a matrix file doesn't go on, each state turned.
 #[derive(Clone, Copy)]
-pub enum Matrix {
+pub enum MatrixFault {
     // a file is over a program's limit: 18
     TooLong,
     // the matrix file is none: it has another length
     Unfit,
-    // the run goes on, each state turned
-    Taken,
 }
 
 // A matrix file has nine doubles.
@@ -41,17 +39,16 @@ pub fn any_over(kernel: &[u8], file: &[u8], matrix: &[u8]) -> bool
 }
 
 // The tests of a matrix file: 18 of any of the three, then its length.
-pub fn matrix_for(kernel: &[u8], file: &[u8], matrix: &[u8]) -> Matrix
+pub fn matrix_for(kernel: &[u8], file: &[u8], matrix: &[u8]) -> Result<(), MatrixFault>
     ensures { result ≡ matrix_for kernel.now file.now matrix.now }
 {
     if any_over(kernel, file, matrix) {
-        return Matrix::TooLong;
+        return Err(MatrixFault::TooLong);
     }
-    if matrix.len() == MATRIX {
-        Matrix::Taken
-    } else {
-        Matrix::Unfit
+    if matrix.len() != MATRIX {
+        return Err(MatrixFault::Unfit);
     }
+    Ok(())
 }
 
 // The plan for a file of records of so many bytes after this mark: the opening's refusals, then 19, or what is to be filled. Files of any length are
@@ -67,16 +64,11 @@ pub fn plan(
     requires { 2 ≤ size }
     ensures { result ≡ run_plan family (limit_of places) size mark kernel.now file.now }
 {
-    let p = opening::plan_of(kernel, family, places);
-    match p {
-        Plan::Refuse(refusal) => Plan::Refuse(refusal),
-        Plan::Fill(n, c) => {
-            if records::fit(file, size, mark) {
-                Plan::Fill(n, c)
-            } else {
-                Plan::Refuse(Refusal::BadRecord)
-            }
-        }
+    let filling = opening::plan_of(kernel, family, places)?;
+    if records::fit(file, size, mark) {
+        Ok(filling)
+    } else {
+        Err(Refusal::BadRecord)
     }
 }
 
@@ -93,7 +85,7 @@ fn plan_short(
     ensures { result ≡ plan_for family (limit_of places) size mark kernel.now file.now }
 {
     if over(kernel, file) {
-        return Plan::Refuse(Refusal::InputTooLong);
+        return Err(Refusal::InputTooLong);
     }
     plan(kernel, family, file, size, mark, places)
 }

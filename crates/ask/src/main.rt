@@ -6,9 +6,7 @@
 ghost use Rattle.std.specs.Prelude.{◌≤◌, ◌+◌, length};
 ghost use Rattle.streams.specs.Input.{input_limit};
 
-use admission::Matrix;
-use ask_text::FrameArgument;
-use streams::Input;
+use admission::MatrixFault;
 
 // What the program takes, on the error output.
 fn explain(rt: &HostRuntime) {
@@ -34,8 +32,7 @@ fn print(rt: &HostRuntime, kernel: &[u8], asked: &[u8], turned: bool, matrix: &[
 
 // The argument FRAME is no number: that is told on the error output.
 fn tell_frame(rt: &HostRuntime, frame: &[u8]) {
-    let f = ask_text::frame_named(frame);
-    if let FrameArgument::NoNumber = f {
+    if ask_text::frame_named(frame).is_none() {
         streams::complain(rt, b"FRAME: not a whole number of 32 bits\n");
     }
 }
@@ -45,11 +42,10 @@ fn print_turned(rt: &HostRuntime, kernel: &[u8], asked: &[u8], matrix: &[u8], fr
     requires { length asked.now ≤ input_limit + 1 }
 {
     print(rt, kernel, asked, true, matrix, frame);
-    let m = admission::matrix_for(kernel, asked, matrix);
-    match m {
-        Matrix::TooLong => {}
-        Matrix::Unfit => streams::complain(rt, b"MATRIX: not 72 bytes long\n"),
-        Matrix::Taken => tell_frame(rt, frame),
+    match admission::matrix_for(kernel, asked, matrix) {
+        Ok(()) => tell_frame(rt, frame),
+        Err(MatrixFault::Unfit) => streams::complain(rt, b"MATRIX: not 72 bytes long\n"),
+        Err(MatrixFault::TooLong) => {}
     }
 }
 
@@ -62,47 +58,43 @@ fn with_frame(rt: &HostRuntime, kernel: &[u8], asked: &[u8], matrix: &[u8])
     print_turned(rt, kernel, asked, matrix, &text[..n]);
 }
 
-// Reads the matrix.
-fn with_matrix(rt: &HostRuntime, kernel: &[u8], asked: &[u8], framed: bool)
+// The same with FRAME as it is given, or 17 without it.
+fn with_matrix(rt: &HostRuntime, kernel: &[u8], asked: &[u8], matrix: &[u8], framed: bool)
     requires { length asked.now ≤ input_limit + 1 }
 {
-    let mut buf = [0u8; streams::ROOM];
-    let input = streams::read_argument(rt, 3, b"MATRIX", &mut buf);
-    if let Input::Bytes(n) = input {
-        if framed {
-            with_frame(rt, kernel, asked, &buf[..n]);
-        } else {
-            print_turned(rt, kernel, asked, &buf[..n], b"17");
-        }
+    if framed {
+        with_frame(rt, kernel, asked, matrix);
+    } else {
+        print_turned(rt, kernel, asked, matrix, b"17");
     }
 }
 
-// Reads the questions.
-fn with_questions(rt: &HostRuntime, kernel: &[u8], turned: bool, framed: bool) {
-    let mut buf = [0u8; streams::ROOM];
-    let input = streams::read_argument(rt, 2, b"QUESTIONS", &mut buf);
-    if let Input::Bytes(n) = input {
-        if turned {
-            with_matrix(rt, kernel, &buf[..n], framed);
-        } else {
-            print(rt, kernel, &buf[..n], false, b"", b"17");
-        }
+// Reads the matrix, if one is given.
+fn with_questions(rt: &HostRuntime, kernel: &[u8], asked: &[u8], turned: bool, framed: bool)
+    requires { length asked.now ≤ input_limit + 1 }
+{
+    if turned {
+        streams::with_argument(rt, 3, b"MATRIX", |matrix| {
+            with_matrix(rt, kernel, asked, matrix, framed)
+        });
+    } else {
+        print(rt, kernel, asked, false, b"", b"17");
     }
 }
 
-// Reads the kernel.
-fn with_kernel(rt: &HostRuntime, turned: bool, framed: bool) {
-    let mut buf = [0u8; streams::ROOM];
-    let input = streams::read_argument(rt, 1, b"KERNEL", &mut buf);
-    if let Input::Bytes(n) = input {
-        with_questions(rt, &buf[..n], turned, framed);
-    }
+// Reads the kernel, then the questions.
+fn ask(rt: &HostRuntime, turned: bool, framed: bool) {
+    streams::with_argument(rt, 1, b"KERNEL", |kernel| {
+        streams::with_argument(rt, 2, b"QUESTIONS", |asked| {
+            with_questions(rt, kernel, asked, turned, framed)
+        })
+    });
 }
 
 fn main(rt: HostRuntime) {
     let given = streams::argument_count(&rt);
     if 3 <= given && given <= 5 {
-        with_kernel(&rt, 4 <= given, given == 5);
+        ask(&rt, 4 <= given, given == 5);
     } else {
         explain(&rt);
     }

@@ -6,7 +6,7 @@ use native.Mathlib.Nat.{sub_self, le_refl, mul-pos, zero-lt-suc, zero-mul}
 use borrow.Author.Tests.{le-ltb}
 use lib.Dec.{T, ltb}
 use lib.IntN.{pos}
-use lib.Ieee.{Float, nan, inf, fin, Format, binary64, up, down, sum, round, add, neg, sub, mul, eq, lt, le, of_bits, is_nan}
+use lib.Ieee.{Float, nan, inf, fin, Format, binary64, up, down, sum, round, add, sub, mul, eq, lt, le, of_bits, is_nan}
 use lib.Ieee.Fits.{down_pos}
 use lib.Ieee.Scale.{round_same}
 use Rattle.bits.specs.F64.{◌⊕◌, ◌⊖◌, ◌⊗◌, +0, finite}

@@ -22,19 +22,8 @@ impl Reach {
     pub fn is_stretched(self) -> bool
         ensures { result ≡ is_stretched self }
     {
-        match self {
-            Reach::Before => true,
-            Reach::Inside => false,
-            Reach::After => true,
-        }
+        !matches!(self, Reach::Inside)
     }
-}
-
-// Four bytes as one number, the least first.
-fn join(a: u8, b: u8, c: u8, d: u8) -> u32
-    ensures { result ≡ a + 256 * b + 65536 * c + 16777216 * d }
-{
-    (a as u32) + 256 * (b as u32) + 65536 * (c as u32) + 16777216 * (d as u32)
 }
 
 // The 32-bit number at byte `at`.
@@ -42,19 +31,14 @@ pub fn le_u32(s: &[u8], at: usize) -> u32
     requires { at + 4 ≤ length s.now }
     ensures { result ≡ le32 s.now at }
 {
-    join(s[at], s[at + 1], s[at + 2], s[at + 3])
+    u32::from_le_bytes([s[at], s[at + 1], s[at + 2], s[at + 3]])
 }
 
 // A 32-bit pattern as a signed number.
 pub fn signed(n: u32) -> i32
     ensures { result ≡ signed32 n }
 {
-    if n < 0x8000_0000 {
-        n as i32
-    } else {
-        // -1 less what is left to the largest pattern
-        -1 - ((0xffff_ffff - n) as i32)
-    }
+    n.cast_signed()
 }
 
 // The signed 32-bit number at byte `at`.
@@ -70,11 +54,9 @@ pub fn le_u64(s: &[u8], at: usize) -> u64
     requires { at + 8 ≤ length s.now }
     ensures { result ≡ le64 s.now at }
 {
-    // from a part of the slice, so that both places are constants: the compiler then makes one load of it
+    // from a part of the slice, so that all places are constants: the compiler then makes one load of it
     let t = &s[at..];
-    let lo = le_u32(t, 0) as u64;
-    let hi = le_u32(t, 4) as u64;
-    lo + 4294967296 * hi
+    u64::from_le_bytes([t[0], t[1], t[2], t[3], t[4], t[5], t[6], t[7]])
 }
 
 // The double of a bit pattern. Every NaN pattern gives the one NaN.
@@ -82,7 +64,7 @@ pub fn double_of(bits: u64) -> f64
     ensures { result ≡ double_of bits }
 {
     if bits % 0x8000_0000_0000_0000 > 0x7ff0_0000_0000_0000 {
-        0.0 / 0.0
+        f64::NAN
     } else {
         f64::from_bits(bits)
     }
@@ -123,22 +105,17 @@ pub fn cut_bits(bits: u64) -> u64
 pub fn cut_u64(x: f64) -> u64
     ensures { result ≡ to_unsigned 64 x }
 {
-    if x != x {
+    if x.is_nan() {
         return 0;
     }
-    cut_bits(f64::to_bits(x))
+    cut_bits(x.to_bits())
 }
 
 // x without its fraction, at 32 bits.
 pub fn cut_u32(x: f64) -> u32
     ensures { result ≡ to_unsigned 32 x }
 {
-    let n = cut_u64(x);
-    if n < 0x1_0000_0000 {
-        n as u32
-    } else {
-        0xffff_ffff
-    }
+    u32::try_from(cut_u64(x)).unwrap_or(u32::MAX)
 }
 
 // The record that q falls in, of n: the whole number at or below q, brought into 0 .. n - 1.
@@ -146,8 +123,7 @@ pub fn record_index(q: f64, n: u64) -> u64
     requires { 1 ≤ n }
     ensures { result ≡ record_of q n }
 {
-    let k = cut_u64(q);
-    if k < n { k } else { n - 1 }
+    cut_u64(q).min(n - 1)
 }
 
 // Where q falls beside the n records. Only what is below 0 has its whole number below it: -0 has not.
@@ -187,7 +163,7 @@ pub fn record_of_few(q: f64, n: u64) -> u64
 {
     if 1.0 <= q {
         if q < whole_double(n) {
-            cut_whole(f64::to_bits(q))
+            cut_whole(q.to_bits())
         } else {
             n - 1
         }
@@ -214,13 +190,7 @@ pub fn reach_of_few(q: f64, n: u64) -> Reach
 pub fn same_bits(a: f64, b: f64) -> bool
     ensures { result ≡ same a b }
 {
-    if a != a {
-        return false;
-    }
-    if b != b {
-        return false;
-    }
-    f64::to_bits(a) == f64::to_bits(b)
+    !a.is_nan() && !b.is_nan() && a.to_bits() == b.to_bits()
 }
 
 // Whether the pattern is that of x.
@@ -228,7 +198,7 @@ pub fn has_bits(bits: u64, x: f64) -> bool
     requires { finite x ≡ true }
     ensures { result ≡ same (double_of bits) x }
 {
-    bits == f64::to_bits(x)
+    bits == x.to_bits()
 }
 
 // Whether the pattern is that of the double that is n.

@@ -8,11 +8,11 @@ use mathlib.Core.Bool.{Bool, true, false, cond}
 use mathlib.Core.List.{List}
 use Rattle.frame.specs.declared.Given.{Given}
 use Rattle.segment.specs.declared.Segment.{Segment}
-use Rattle.segment.specs.declared.Evaluated.{Evaluated}
-use Rattle.segment.specs.declared.Evaluated.TheVariants as evaluation
+use Rattle.std.proofs.Common.{Result, Ok, Err}
+use Rattle.refusal.specs.declared.Refusal.{Refusal}
+use Rattle.segment.specs.declared.Valued.{Valued}
 use Rattle.segment.specs.Before.{bare_evaluated}
 use Rattle.table.specs.Segments.{seg}
-use Rattle.chain.specs.declared.Yielded.TheVariants as yielded
 use Rattle.chain.specs.declared.Leg.{Leg}
 use Rattle.chain.specs.declared.Hop.{Hop}
 use Rattle.chain.specs.declared.Step.{Step}
@@ -39,9 +39,9 @@ abbrev bare_next : Next → OldNext
 bare_next (next.Ended e) = Ended (bare e)
 bare_next (next.Onward leg) = Onward (bare_leg leg)
 
-pub yield_as_before : (s : Segment) (e : Evaluated) → bare (yield_of s e) ≡ old_yield_of s (bare_evaluated e)
-yield_as_before s (evaluation.State x) = refl
-yield_as_before s (evaluation.Refused r) = refl
+pub yield_as_before : (s : Segment) (e : Result Valued Refusal) → bare (yield_of s e) ≡ old_yield_of s (bare_evaluated e)
+yield_as_before s (Ok x) = refl
+yield_as_before s (Err r) = refl
 
 -- ---- a step
 met_as : (kept : Step) (s : Segment) (g : Given) → bare_step (met kept s g) ≡ old_met (bare_step kept) s (bare_given g)
@@ -66,9 +66,9 @@ module _ (ev : Evaluation) (segs : List Segment) where
   unfolding look
   look_as leg kept s i = go (leaves s leg) (ev s i leg.et)
     where
-      go : (b : Bool) (e : Evaluated) → bare_step (cond b (seen kept s e) kept) ≡ cond b (old_seen (bare_step kept) s (bare_evaluated e)) (bare_step kept)
-      go true (evaluation.State x) = met_as kept s (given_by s x)
-      go true (evaluation.Refused r) = refl
+      go : (b : Bool) (e : Result Valued Refusal) → bare_step (cond b (seen kept s e) kept) ≡ cond b (old_seen (bare_step kept) s (bare_evaluated e)) (bare_step kept)
+      go true (Ok x) = met_as kept s (given_by s x)
+      go true (Err r) = refl
       go false e = refl
 
   end_as : (x : Step) → is_end x ≡ old_is_end (bare_step x)
@@ -122,7 +122,7 @@ module _ (ev : Evaluation) (segs : List Segment) where
     unfolding to_zero
     zero_as_before leg = go (is_zero leg)
       where
-        go : (b : Bool) → bare (cond b (yielded.Given leg.total) (walk_from ev segs n leg chain_limit))
+        go : (b : Bool) → bare (cond b (Ok leg.total) (walk_from ev segs n leg chain_limit))
             ≡ cond b (Gave (bare_given leg.total)) (old_walk_from (bare_evaluation ev) segs n (bare_leg leg) chain_limit)
         go true = refl
         go false = walk_as leg chain_limit

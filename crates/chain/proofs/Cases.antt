@@ -17,10 +17,10 @@ use Rattle.frame.specs.Given.{nothing_given}
 use Rattle.refusal.specs.declared.Refusal.TheVariants.{NoCoverage, Unsupported}
 use Rattle.segment.specs.declared.Segment.{Segment}
 use Rattle.segment.specs.declared.Kind.TheVariants as kinds
-use Rattle.segment.specs.declared.Evaluated.{Evaluated}
-use Rattle.segment.specs.declared.Evaluated.TheVariants as evaluation
-use Rattle.chain.specs.declared.Yielded.{Yielded}
-use Rattle.chain.specs.declared.Yielded.TheVariants as yielded
+use Rattle.std.proofs.Common.{Result, Ok, Err}
+use Rattle.refusal.specs.declared.Refusal.{Refusal}
+use Rattle.segment.specs.declared.Valued.{Valued}
+use Rattle.frame.specs.declared.Given.{Given}
 use Rattle.chain.specs.Step.{met, look, step_in, step_from}
 use Rattle.chain.specs.Walk.{walk_from, to_zero}
 
@@ -58,36 +58,36 @@ abbrev six : Float → State
 six x = state_of (λ k. x)
 
 -- a segment of type 2 gives six times its number, -0 for 0, stretched where it is marked, and one of another type is refused
-abbrev evaluate : Segment → ℕ → Float → Evaluated
+abbrev evaluate : Segment → ℕ → Float → Result Valued Refusal
 evaluate s i et =
-    cond (same_z s.data_type (pos 2)) (evaluation.State (record { state = six (cond (same_z s.start (pos 0)) (neg +0) (of_int binary64 s.start)); stretched = s.marked }))
-    (evaluation.Refused (Unsupported s.data_type))
+    cond (same_z s.data_type (pos 2)) (Ok (record { state = six (cond (same_z s.start (pos 0)) (neg +0) (of_int binary64 s.start)); stretched = s.marked }))
+    (Err (Unsupported s.data_type))
 
 -- body n about n - 1, and so on down to 1 about 0
 abbrev ladder : ℕ → List Segment
 ladder zero = []
 ladder (suc k) = of_pair (suc k) k 1 ∷ ladder k
 
-abbrev from : ℕ → ℕ → List Segment → Yielded
+abbrev from : ℕ → ℕ → List Segment → Result Given Refusal
 from body et segs =
     to_zero evaluate segs (length segs) (record { start = pos body; body = pos body; et = whole et; total = nothing_given })
 
 -- six times a number in frame 1, in any frame, or of several
-abbrev framed : Framed → Float → Yielded
-framed f x = yielded.Given (record { state = six x; frame = f; stretched = false })
+abbrev framed : Framed → Float → Result Given Refusal
+framed f x = Ok (record { state = six x; frame = f; stretched = false })
 
-abbrev gives : Float → Yielded
+abbrev gives : Float → Result Given Refusal
 gives = framed (One (pos 1))
 
 -- the same in frame 1, of which a record was stretched
-abbrev stretches : Float → Yielded
-stretches x = yielded.Given (record { state = six x; frame = One (pos 1); stretched = true })
+abbrev stretches : Float → Result Given Refusal
+stretches x = Ok (record { state = six x; frame = One (pos 1); stretched = true })
 
-abbrev eleven : ℕ → Yielded
-eleven body = yielded.Refused (NoCoverage (pos body))
+abbrev eleven : ℕ → Result Given Refusal
+eleven body = Err (NoCoverage (pos body))
 
 -- a walk of 32 steps answers, one of 33 is 11 for the starting body; body 0 takes no step
-pub ladders : from 32 3 (ladder 32) ∷ from 33 3 (ladder 33) ∷ from 0 3 (ladder 2) ∷ [] ≡ gives (whole 32) ∷ eleven 33 ∷ yielded.Given nothing_given ∷ []
+pub ladders : from 32 3 (ladder 32) ∷ from 33 3 (ladder 33) ∷ from 0 3 (ladder 2) ∷ [] ≡ gives (whole 32) ∷ eleven 33 ∷ Ok nothing_given ∷ []
 unfolding to_zero walk_from step_from step_in look met plus_state zero_state add le neg of_int of_bits
 ladders = refl
 
@@ -103,7 +103,7 @@ stuck-cases = refl
 pub step-cases :
     from 5 3 (of_pair 5 6 1 ∷ of_pair 5 7 2 ∷ of_pair 6 0 4 ∷ of_pair 7 0 8 ∷ []) ∷ from 5 3 (of_pair 5 6 1 ∷ of_pair 5 0 2 ∷ of_pair 6 0 4 ∷ [])
     ∷ from 5 3 (of_pair 5 6 1 ∷ of_type 1 5 7 2 ∷ of_pair 6 0 4 ∷ []) ∷ from 5 3 (of_pair 5 0 2 ∷ of_type 1 5 7 2 ∷ []) ∷ from 5 3 (of_pair 5 0 0 ∷ []) ∷ []
-    ≡ gives (whole 5) ∷ gives (whole 2) ∷ yielded.Refused (Unsupported (pos 1)) ∷ gives (whole 2) ∷ gives +0 ∷ []
+    ≡ gives (whole 5) ∷ gives (whole 2) ∷ Err (Unsupported (pos 1)) ∷ gives (whole 2) ∷ gives +0 ∷ []
 unfolding to_zero walk_from step_from step_in look met plus_state zero_state add le neg of_int of_bits
 step-cases = refl
 

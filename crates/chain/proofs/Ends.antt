@@ -13,8 +13,9 @@ use lib.IntN.{ℤ}
 use Rattle.bits.proofs.Tests.{by_test_lem}
 use Rattle.frame.specs.declared.Given.{Given}
 use Rattle.segment.specs.declared.Segment.{Segment}
-use Rattle.segment.specs.declared.Evaluated.{Evaluated}
-use Rattle.segment.specs.declared.Evaluated.TheVariants as evaluation
+use Rattle.std.proofs.Common.{Result, Ok, Err}
+use Rattle.refusal.specs.declared.Refusal.{Refusal}
+use Rattle.segment.specs.declared.Valued.{Valued}
 use Rattle.table.specs.Segments.{seg}
 use Rattle.chain.specs.declared.Leg.{Leg}
 use Rattle.chain.specs.declared.Step.{Step}
@@ -70,9 +71,9 @@ module _ (ev : Evaluation) (segs : List Segment) (leg : Leg) where
   unfolding look
   look_some b kept i l h = ap (λ (t : Bool). some (cond t (seen kept (seg segs i) (ev (seg segs i) i leg.et)) kept)) l ∙ go b (ev (seg segs i) i leg.et) h
     where
-      go : (t : Bool) (e : Evaluated) → (t || some kept) ≡ true → some (cond t (seen kept (seg segs i) e) kept) ≡ true
-      go true (evaluation.State x) p = met_some kept (seg segs i) (given_by (seg segs i) x)
-      go true (evaluation.Refused r) p = refl
+      go : (t : Bool) (e : Result Valued Refusal) → (t || some kept) ≡ true → some (cond t (seen kept (seg segs i) e) kept) ≡ true
+      go true (Ok x) p = met_some kept (seg segs i) (given_by (seg segs i) x)
+      go true (Err r) p = refl
       go false e p = p
 
   step_some : (kept : Step) (i r : ℕ) → some kept ≡ true → some (step_in ev segs leg kept i r) ≡ true

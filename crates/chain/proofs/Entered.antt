@@ -16,11 +16,9 @@ use Rattle.bits.proofs.Tests.{by_test_lem, or_left, or_right}
 use Rattle.frame.specs.declared.Given.{Given}
 use Rattle.segment.specs.declared.Segment.{Segment}
 use Rattle.segment.specs.declared.Valued.{Valued}
-use Rattle.segment.specs.declared.Evaluated.{Evaluated}
-use Rattle.segment.specs.declared.Evaluated.TheVariants as evaluation
+use Rattle.std.proofs.Common.{Result, Ok, Err}
+use Rattle.refusal.specs.declared.Refusal.{Refusal}
 use Rattle.table.specs.Segments.{seg}
-use Rattle.chain.specs.declared.Yielded.{Yielded}
-use Rattle.chain.specs.declared.Yielded.TheVariants as yielded
 use Rattle.chain.specs.declared.Leg.{Leg}
 use Rattle.chain.specs.declared.Hop.{Hop}
 use Rattle.chain.specs.declared.Step.{Step}
@@ -46,10 +44,10 @@ one_number a b p q =
     by_test_lem (ltb a b) (λ t. absurd (p (ltb-true a b t)))
     (λ t. by_test_lem (ltb b a) (λ u. absurd (q (ltb-true b a u))) (λ u. let x = ltb-false a b t in let y = ltb-false b a u in omega arith))
 
-one_value : (v w : Valued) → ◌≡◌ {A = Evaluated} (evaluation.State v) (evaluation.State w) → v ≡ w
+one_value : (v w : Valued) → ◌≡◌ {A = Result Valued Refusal} (Ok v) (Ok w) → v ≡ w
 one_value v w h = cc
 
-one_given : (g h : Given) → ◌≡◌ {A = Yielded} (yielded.Given g) (yielded.Given h) → g ≡ h
+one_given : (g h : Given) → ◌≡◌ {A = Result Given Refusal} (Ok g) (Ok h) → g ≡ h
 one_given g h e = cc
 
 not_kept : {X : Type 0} (x : Given) (hop : Hop) → ◌≡◌ {A = Step} (Zero x) (Kept hop) → X
@@ -64,7 +62,7 @@ module _ (ev : Evaluation) (segs : List Segment) (leg : Leg) where
   record Met (i a : ℕ) (v : Valued) (g : Given) : Type 0 where
     below : a < i
     leaving : leaves (seg segs a) leg ≡ true
-    gives : ev (seg segs a) a leg.et ≡ evaluation.State v
+    gives : ev (seg segs a) a leg.et ≡ Ok v
     given : g ≡ given_by (seg segs a) v
 
   unfoldable Scanned : Step → ℕ → Type 0
@@ -97,7 +95,7 @@ module _ (ev : Evaluation) (segs : List Segment) (leg : Leg) where
   other_more (Refused r) i l s = tt
 
   -- one more, which gives v and doesn't go to body 0
-  kept_more : (kept : Step) (i : ℕ) (v : Valued) → leaves (seg segs i) leg ≡ true → ev (seg segs i) i leg.et ≡ evaluation.State v → reaches_zero (seg segs i) ≡ false
+  kept_more : (kept : Step) (i : ℕ) (v : Valued) → leaves (seg segs i) leg ≡ true → ev (seg segs i) i leg.et ≡ Ok v → reaches_zero (seg segs i) ≡ false
       → is_end kept ≡ false → Scanned kept i → Scanned (kept_or kept (Kept (record { center = (seg segs i).center; given = given_by (seg segs i) v }))) (suc i)
   unfolding Scanned
   kept_more Blocked i v l h z e s =
@@ -114,10 +112,10 @@ module _ (ev : Evaluation) (segs : List Segment) (leg : Leg) where
       is : {x : Step} → x ≡ look ev leg kept (seg segs i) i → Scanned x (suc i) → Scanned (look ev leg kept (seg segs i) i) (suc i)
       is p z = subst (λ (x : Step). Scanned x (suc i)) p z
 
-      seen_as : (y : Evaluated) → ev (seg segs i) i leg.et ≡ y → leaves (seg segs i) leg ≡ true → Scanned (look ev leg kept (seg segs i) i) (suc i)
-      seen_as (evaluation.Refused r) h l = is (look_seen ev leg kept (seg segs i) i (evaluation.Refused r) l h) tt
-      seen_as (evaluation.State v) h l =
-          let was = look_seen ev leg kept (seg segs i) i (evaluation.State v) l h in
+      seen_as : (y : Result Valued Refusal) → ev (seg segs i) i leg.et ≡ y → leaves (seg segs i) leg ≡ true → Scanned (look ev leg kept (seg segs i) i) (suc i)
+      seen_as (Err r) h l = is (look_seen ev leg kept (seg segs i) i (Err r) l h) tt
+      seen_as (Ok v) h l =
+          let was = look_seen ev leg kept (seg segs i) i (Ok v) l h in
           by_test_lem (reaches_zero (seg segs i))
           (λ g. is (met_home kept (seg segs i) (given_by (seg segs i) v) g ∙ was) (i, v, record { below = omega arith; leaving = l; gives = h; given = refl }, (g, all_past kept i e s)))
           (λ g. is (met_else kept (seg segs i) (given_by (seg segs i) v) kept (record { center = (seg segs i).center; given = given_by (seg segs i) v }) g refl refl refl ∙ was) (kept_more kept i v l h g e s))
@@ -196,23 +194,23 @@ module _ (ev : Evaluation) (segs : List Segment) (n : ℕ) where
   -- what a walk that ends with a state was
   data Ends (leg : Leg) (left : ℕ) (g : Given) : Type 0 where
     home : (x : Given) → step_from ev segs n leg ≡ Zero x → g.stretched ≡ (leg.total.stretched || x.stretched) → Ends leg left g
-    on : (hop : Hop) → step_from ev segs n leg ≡ Kept hop → returns leg hop ≡ false → walk_from ev segs n (onward leg hop) left ≡ yielded.Given g → Ends leg left g
+    on : (hop : Hop) → step_from ev segs n leg ≡ Kept hop → returns leg hop ≡ false → walk_from ev segs n (onward leg hop) left ≡ Ok g → Ends leg left g
 
-  ends : (leg : Leg) (left : ℕ) (g : Given) → walk_from ev segs n leg (suc left) ≡ yielded.Given g → Ends leg left g
+  ends : (leg : Leg) (left : ℕ) (g : Given) → walk_from ev segs n leg (suc left) ≡ Ok g → Ends leg left g
   unfolding walk_from
   ends leg left g h = go (step_from ev segs n leg) refl h
     where
-      go : (step : Step) → step_from ev segs n leg ≡ step → follow (λ on. walk_from ev segs n on left) (advance leg step) ≡ yielded.Given g → Ends leg left g
+      go : (step : Step) → step_from ev segs n leg ≡ step → follow (λ on. walk_from ev segs n on left) (advance leg step) ≡ Ok g → Ends leg left g
       go Blocked e x = not_given g _ (sym x)
       go (Kept hop) e x = back (returns leg hop) refl x
         where
-          back : (t : Bool) → returns leg hop ≡ t → follow (λ on. walk_from ev segs n on left) (cond t (Ended (no_coverage leg.start)) (Onward (onward leg hop))) ≡ yielded.Given g → Ends leg left g
+          back : (t : Bool) → returns leg hop ≡ t → follow (λ on. walk_from ev segs n on left) (cond t (Ended (no_coverage leg.start)) (Onward (onward leg hop))) ≡ Ok g → Ends leg left g
           back true f y = not_given g _ (sym y)
           back false f y = on hop e f y
       go (Zero y) e x = home y e (ap (λ (z : Given). z.stretched) (sym (one_given _ g x)))
       go (Refused r) e x = not_given g r (sym x)
 
-  pub word_only : (leg : Leg) (left : ℕ) (g : Given) → walk_from ev segs n leg left ≡ yielded.Given g → g.stretched ≡ true
+  pub word_only : (leg : Leg) (left : ℕ) (g : Given) → walk_from ev segs n leg left ≡ Ok g → g.stretched ≡ true
       → (leg.total.stretched ≡ true) ⊎ Stretches ev segs n leg left
   unfolding walk_from Entered
   word_only leg zero g h w = not_given g _ (sym h)
@@ -221,39 +219,39 @@ module _ (ev : Evaluation) (segs : List Segment) (n : ℕ) where
       taken : (step : Step) (x : Given) → step_from ev segs n leg ≡ step → step_gives ev segs n leg step x → x.stretched ≡ true → Stretches ev segs n leg (suc left)
       taken step x e y t = let s = step_taken ev segs n leg step x e y in (s.0, s.1, inl s.2, sym (ap (λ (z : Given). z.stretched) s.3) ∙ t)
 
-      go : Ends leg left g → ((on : Leg) → walk_from ev segs n on left ≡ yielded.Given g → g.stretched ≡ true → (on.total.stretched ≡ true) ⊎ Stretches ev segs n on left)
+      go : Ends leg left g → ((on : Leg) → walk_from ev segs n on left ≡ Ok g → g.stretched ≡ true → (on.total.stretched ≡ true) ⊎ Stretches ev segs n on left)
           → (leg.total.stretched ≡ true) ⊎ Stretches ev segs n leg (suc left)
       go (home x e t) ih = ⊎_elim (λ a. inl a) (λ b. inr (taken (Zero x) x e refl b)) (or_one leg.total.stretched x.stretched (sym t ∙ w))
       go (on hop e f y) ih =
           ⊎_elim (λ a. ⊎_elim (λ b. inl b) (λ b. inr (taken (Kept hop) hop.given e refl b)) (or_one leg.total.stretched hop.given.stretched a))
           (λ b. inr (b.0, b.1, inr (hop, e, f, b.2), b.3)) (ih (onward leg hop) y w)
 
-  pub word_start : (leg : Leg) (left : ℕ) (g : Given) → walk_from ev segs n leg left ≡ yielded.Given g → leg.total.stretched ≡ true → g.stretched ≡ true
+  pub word_start : (leg : Leg) (left : ℕ) (g : Given) → walk_from ev segs n leg left ≡ Ok g → leg.total.stretched ≡ true → g.stretched ≡ true
   unfolding walk_from
   word_start leg zero g h w = not_given g _ (sym h)
   word_start leg (suc left) g h w = go (ends leg left g h) (λ on. word_start on left g)
     where
-      go : Ends leg left g → ((on : Leg) → walk_from ev segs n on left ≡ yielded.Given g → on.total.stretched ≡ true → g.stretched ≡ true) → g.stretched ≡ true
+      go : Ends leg left g → ((on : Leg) → walk_from ev segs n on left ≡ Ok g → on.total.stretched ≡ true → g.stretched ≡ true) → g.stretched ≡ true
       go (home x e t) ih = t ∙ or_left leg.total.stretched x.stretched w
       go (on hop e f y) ih = ih (onward leg hop) y (or_left leg.total.stretched hop.given.stretched w)
 
-  pub word_where : (leg : Leg) (left : ℕ) (g : Given) (i : ℕ) (v : Valued) → walk_from ev segs n leg left ≡ yielded.Given g → Entered ev segs n leg left i v → v.stretched ≡ true → g.stretched ≡ true
+  pub word_where : (leg : Leg) (left : ℕ) (g : Given) (i : ℕ) (v : Valued) → walk_from ev segs n leg left ≡ Ok g → Entered ev segs n leg left i v → v.stretched ≡ true → g.stretched ≡ true
   unfolding walk_from Entered
   word_where leg zero g i v h t w = absurd t
   word_where leg (suc left) g i v h t w = go (ends leg left g h) t (λ on. word_where on left g i v)
     where
       go : Ends leg left g → Taken ev segs n leg i v ⊎ ((hop : Hop) × (step_from ev segs n leg ≡ Kept hop) × (returns leg hop ≡ false) × Entered ev segs n (onward leg hop) left i v)
-          → ((on : Leg) → walk_from ev segs n on left ≡ yielded.Given g → Entered ev segs n on left i v → v.stretched ≡ true → g.stretched ≡ true) → g.stretched ≡ true
+          → ((on : Leg) → walk_from ev segs n on left ≡ Ok g → Entered ev segs n on left i v → v.stretched ≡ true → g.stretched ≡ true) → g.stretched ≡ true
       go (home x e y) (inl t) ih = y ∙ or_right leg.total.stretched x.stretched (taken_one ev segs n leg (Zero x) x i v e refl t ∙ w)
       go (home x e y) (inr t) ih = not_kept x t.0 (sym e ∙ t.1)
       go (on hop e f y) (inl t) ih = word_start (onward leg hop) left g y (or_right leg.total.stretched hop.given.stretched (taken_one ev segs n leg (Kept hop) hop.given i v e refl t ∙ w))
-      go (on hop e f y) (inr t) ih = ih (onward leg t.0) (subst (λ (x : Hop). walk_from ev segs n (onward leg x) left ≡ yielded.Given g) (one_hop hop t.0 (sym e ∙ t.1)) y) t.3 w
+      go (on hop e f y) (inr t) ih = ih (onward leg t.0) (subst (λ (x : Hop). walk_from ev segs n (onward leg x) left ≡ Ok g) (one_hop hop t.0 (sym e ∙ t.1)) y) t.3 w
 
   -- of a walk to body 0 that starts with a sum that says no: body 0 takes no step
-  pub zero_only : (leg : Leg) (g : Given) → leg.total.stretched ≡ false → to_zero ev segs n leg ≡ yielded.Given g → g.stretched ≡ true → (is_zero leg ≡ false) × Stretches ev segs n leg chain_limit
+  pub zero_only : (leg : Leg) (g : Given) → leg.total.stretched ≡ false → to_zero ev segs n leg ≡ Ok g → g.stretched ≡ true → (is_zero leg ≡ false) × Stretches ev segs n leg chain_limit
   zero_only leg g none h w =
       by_test_lem (is_zero leg) (λ z. absurd (true≢false (sym w ∙ ap (λ (x : Given). x.stretched) (one_given g leg.total (sym h ∙ zero_home ev segs n leg z)) ∙ none)))
       (λ z. (z, ⊎_elim (λ a. absurd (true≢false (sym a ∙ none))) (λ b. b) (word_only leg chain_limit g (sym (zero_walk ev segs n leg z) ∙ h) w)))
 
-  pub zero_where : (leg : Leg) (g : Given) → to_zero ev segs n leg ≡ yielded.Given g → (is_zero leg ≡ false) × Stretches ev segs n leg chain_limit → g.stretched ≡ true
+  pub zero_where : (leg : Leg) (g : Given) → to_zero ev segs n leg ≡ Ok g → (is_zero leg ≡ false) × Stretches ev segs n leg chain_limit → g.stretched ≡ true
   zero_where leg g h s = word_where leg chain_limit g s.1.0 s.1.1 (sym (zero_walk ev segs n leg s.0) ∙ h) s.1.2 s.1.3

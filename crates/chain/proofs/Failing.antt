@@ -19,11 +19,8 @@ use Rattle.refusal.specs.declared.Refusal.{Refusal}
 use Rattle.refusal.specs.declared.Refusal.TheVariants.{NoCoverage}
 use Rattle.segment.specs.declared.Segment.{Segment}
 use Rattle.segment.specs.declared.Valued.{Valued}
-use Rattle.segment.specs.declared.Evaluated.{Evaluated}
-use Rattle.segment.specs.declared.Evaluated.TheVariants as evaluation
+use Rattle.std.proofs.Common.{Result, Ok, Err}
 use Rattle.table.specs.Segments.{seg}
-use Rattle.chain.specs.declared.Yielded.{Yielded}
-use Rattle.chain.specs.declared.Yielded.TheVariants as yielded
 use Rattle.chain.specs.declared.Leg.{Leg}
 use Rattle.chain.specs.declared.Hop.{Hop}
 use Rattle.chain.specs.declared.Step.{Step}
@@ -36,13 +33,13 @@ use Rattle.chain.proofs.Ends.{clash}
 use Rattle.chain.proofs.Walks.{zero_home, zero_walk}
 use Rattle.chain.proofs.Steps.{met_home, met_else, look_past, look_seen}
 
-refusal_eq : (r s : Refusal) → ◌≡◌ {A = Yielded} (yielded.Refused r) (yielded.Refused s) → r ≡ s
+refusal_eq : (r s : Refusal) → ◌≡◌ {A = Result Given Refusal} (Err r) (Err s) → r ≡ s
 refusal_eq r s h = cc
 
-pub not_given : {X : Type 0} (x : Given) (r : Refusal) → ◌≡◌ {A = Yielded} (yielded.Given x) (yielded.Refused r) → X
+pub not_given : {X : Type 0} (x : Given) (r : Refusal) → ◌≡◌ {A = Result Given Refusal} (Ok x) (Err r) → X
 not_given x r h = clash (cc)
 
-not_state : {X : Type 0} (x : Valued) (r : Refusal) → ◌≡◌ {A = Evaluated} (evaluation.State x) (evaluation.Refused r) → X
+not_state : {X : Type 0} (x : Valued) (r : Refusal) → ◌≡◌ {A = Result Valued Refusal} (Ok x) (Err r) → X
 not_state x r h = clash (cc)
 
 step_refusal : (r s : Refusal) → ◌≡◌ {A = Step} (Refused r) (Refused s) → r ≡ s
@@ -68,17 +65,17 @@ module _ (ev : Evaluation) (segs : List Segment) (leg : Leg) where
   data Look (kept : Step) (i : ℕ) : Type 0 where
     on : (next : Step) → look ev leg kept (seg segs i) i ≡ next → is_end next ≡ false → Past ev segs leg i → Look kept i
     home : (x : Given) → look ev leg kept (seg segs i) i ≡ Zero x → leaves (seg segs i) leg ≡ true → reaches_zero (seg segs i) ≡ true → Look kept i
-    refused : (r : Refusal) → look ev leg kept (seg segs i) i ≡ Refused r → leaves (seg segs i) leg ≡ true → ev (seg segs i) i leg.et ≡ evaluation.Refused r → Look kept i
+    refused : (r : Refusal) → look ev leg kept (seg segs i) i ≡ Refused r → leaves (seg segs i) leg ≡ true → ev (seg segs i) i leg.et ≡ Err r → Look kept i
 
   looks : (kept : Step) (i : ℕ) → is_end kept ≡ false → Look kept i
   looks kept i e =
       by_test_lem (leaves (seg segs i) leg) (λ l. go (ev (seg segs i) i leg.et) refl l)
       (λ l. on kept (sym (look_past ev leg kept (seg segs i) i l)) e (λ t. absurd (true≢false (sym t ∙ l))))
     where
-      go : (v : Evaluated) → ev (seg segs i) i leg.et ≡ v → leaves (seg segs i) leg ≡ true → Look kept i
-      go (evaluation.Refused r) h l = refused r (sym (look_seen ev leg kept (seg segs i) i (evaluation.Refused r) l h)) l h
-      go (evaluation.State x) h l =
-          let was = look_seen ev leg kept (seg segs i) i (evaluation.State x) l h in
+      go : (v : Result Valued Refusal) → ev (seg segs i) i leg.et ≡ v → leaves (seg segs i) leg ≡ true → Look kept i
+      go (Err r) h l = refused r (sym (look_seen ev leg kept (seg segs i) i (Err r) l h)) l h
+      go (Ok x) h l =
+          let was = look_seen ev leg kept (seg segs i) i (Ok x) l h in
           by_test_lem (reaches_zero (seg segs i)) (λ g. home (given_by (seg segs i) x) (sym was ∙ sym (met_home kept (seg segs i) (given_by (seg segs i) x) g)) l g)
           (λ g.
           let hop : Hop = record { center = (seg segs i).center; given = given_by (seg segs i) x } in
@@ -104,7 +101,7 @@ module _ (ev : Evaluation) (segs : List Segment) (leg : Leg) where
       go (home x l t g) ih = not_home x r (sym (turn kept (Zero x) i k true l refl) ∙ h)
       go (refused y l t v) ih =
           let same = step_refusal y r (sym (turn kept (Refused y) i k true l refl) ∙ h) in
-          (i, record { below = omega arith; leaving = t; gives = v ∙ ap evaluation.Refused same; past = before })
+          (i, record { below = omega arith; leaving = t; gives = v ∙ ap Err same; past = before })
 
   step_where : (n i : ℕ) (r : Refusal) → RefusedAt ev segs n leg i r → (kept : Step) (a k : ℕ) → a ≤ i → i < a + k → is_end kept ≡ false
       → step_in ev segs leg kept a k ≡ Refused r
@@ -115,7 +112,7 @@ module _ (ev : Evaluation) (segs : List Segment) (leg : Leg) where
       here : a ≡ i → step_in ev segs leg kept a (suc k) ≡ Refused r
       here x =
           ap (λ (y : ℕ). step_in ev segs leg kept y (suc k)) x
-          ∙ turn kept (Refused r) i k true (sym (look_seen ev leg kept (seg segs i) i (evaluation.Refused r) w.leaving w.gives)) refl
+          ∙ turn kept (Refused r) i k true (sym (look_seen ev leg kept (seg segs i) i (Err r) w.leaving w.gives)) refl
 
       go : a < i → Look kept a → ((next : Step) → is_end next ≡ false → step_in ev segs leg next (suc a) k ≡ Refused r) → step_in ev segs leg kept a (suc k) ≡ Refused r
       go l (on next u x p) ih = turn kept next a k false u x ∙ ih next x
@@ -132,7 +129,7 @@ module _ (ev : Evaluation) (segs : List Segment) (n : ℕ) where
   unfolding step_from
   at_refused leg i r w = let b = w.below in step_where ev segs leg n i r w Blocked 0 n (omega arith) (omega arith) refl
 
-  pub failed_where : (leg : Leg) (left i : ℕ) (r : Refusal) → Failed ev segs n leg left i r → walk_from ev segs n leg left ≡ yielded.Refused r
+  pub failed_where : (leg : Leg) (left i : ℕ) (r : Refusal) → Failed ev segs n leg left i r → walk_from ev segs n leg left ≡ Err r
   unfolding walk_from Failed
   failed_where leg zero i r w = absurd w
   failed_where leg (suc left) i r w =
@@ -146,19 +143,19 @@ module _ (ev : Evaluation) (segs : List Segment) (n : ℕ) where
   abbrev pub Ends : Leg → ℕ → Refusal → Type 0
   Ends leg left r = ((i : ℕ) × Failed ev segs n leg left i r) ⊎ ((b : ℤ) × Stuck ev segs n leg left b × (NoCoverage b ≡ r))
 
-  pub walk_why : (leg : Leg) (left : ℕ) (r : Refusal) → walk_from ev segs n leg left ≡ yielded.Refused r → Ends leg left r
+  pub walk_why : (leg : Leg) (left : ℕ) (r : Refusal) → walk_from ev segs n leg left ≡ Err r → Ends leg left r
   unfolding walk_from Failed Stuck
   walk_why leg zero r h = inr (leg.start, refl, refusal_eq _ r h)
   walk_why leg (suc left) r h = go (λ on. walk_why on left r) (step_from ev segs n leg) refl h
     where
-      go : ((on : Leg) → walk_from ev segs n on left ≡ yielded.Refused r → Ends on left r)
-          → (step : Step) → step_from ev segs n leg ≡ step → follow (λ on. walk_from ev segs n on left) (advance leg step) ≡ yielded.Refused r
+      go : ((on : Leg) → walk_from ev segs n on left ≡ Err r → Ends on left r)
+          → (step : Step) → step_from ev segs n leg ≡ step → follow (λ on. walk_from ev segs n on left) (advance leg step) ≡ Err r
           → ((i : ℕ) × Failed ev segs n leg (suc left) i r) ⊎ ((b : ℤ) × stuck_after leg b (λ on. Stuck ev segs n on left b) step × (NoCoverage b ≡ r))
       go ih Blocked e x = inr (leg.body, refl, refusal_eq _ r x)
       go ih (Kept hop) e x = back (returns leg hop) refl x
         where
           back : (t : Bool) → returns leg hop ≡ t
-              → follow (λ on. walk_from ev segs n on left) (cond t (Ended (no_coverage leg.start)) (Onward (onward leg hop))) ≡ yielded.Refused r
+              → follow (λ on. walk_from ev segs n on left) (cond t (Ended (no_coverage leg.start)) (Onward (onward leg hop))) ≡ Err r
               → ((i : ℕ) × Failed ev segs n leg (suc left) i r) ⊎ ((b : ℤ) × by_test t (leg.start ≡ b) (Stuck ev segs n (onward leg hop) left b) × (NoCoverage b ≡ r))
           back true f y = inr (leg.start, refl, refusal_eq _ r y)
           back false f y =
@@ -167,12 +164,12 @@ module _ (ev : Evaluation) (segs : List Segment) (n : ℕ) where
       go ih (Refused y) e x = let w = refused_at leg r (e ∙ ap Refused (refusal_eq y r x)) in inl (w.0, inl w.1)
 
   -- body 0 takes no step
-  pub zero_why : (leg : Leg) (r : Refusal) → to_zero ev segs n leg ≡ yielded.Refused r → (is_zero leg ≡ false) × Ends leg chain_limit r
+  pub zero_why : (leg : Leg) (r : Refusal) → to_zero ev segs n leg ≡ Err r → (is_zero leg ≡ false) × Ends leg chain_limit r
   zero_why leg r h =
       by_test_lem (is_zero leg) (λ e. not_given _ r (sym (zero_home ev segs n leg e) ∙ h))
       (λ e. (e, walk_why leg chain_limit r (sym (zero_walk ev segs n leg e) ∙ h)))
 
-  pub failed_given : (leg : Leg) (left i : ℕ) (r : Refusal) → Failed ev segs n leg left i r → (i < n) × (ev (seg segs i) i leg.et ≡ evaluation.Refused r)
+  pub failed_given : (leg : Leg) (left i : ℕ) (r : Refusal) → Failed ev segs n leg left i r → (i < n) × (ev (seg segs i) i leg.et ≡ Err r)
   unfolding Failed
   failed_given leg zero i r w = absurd w
   failed_given leg (suc left) i r w = ⊎_elim (λ x. (x.below, x.gives)) (λ x. failed_given (onward leg x.0) left i r x.3) w

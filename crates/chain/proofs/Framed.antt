@@ -11,11 +11,9 @@ use Rattle.frame.specs.declared.Framed.TheVariants.{Nothing, One, Mixed}
 use Rattle.frame.specs.Framed.{joined_with, joined}
 use Rattle.segment.specs.declared.Segment.{Segment}
 use Rattle.segment.specs.declared.Valued.{Valued}
-use Rattle.segment.specs.declared.Evaluated.{Evaluated}
-use Rattle.segment.specs.declared.Evaluated.TheVariants as evaluation
+use Rattle.std.proofs.Common.{Result, Ok, Err}
+use Rattle.refusal.specs.declared.Refusal.{Refusal}
 use Rattle.table.specs.Segments.{seg}
-use Rattle.chain.specs.declared.Yielded.{Yielded}
-use Rattle.chain.specs.declared.Yielded.TheVariants as yielded
 use Rattle.chain.specs.declared.Leg.{Leg}
 use Rattle.chain.specs.declared.Step.{Step}
 use Rattle.chain.specs.declared.Step.TheVariants.{Blocked, Kept, Zero, Refused}
@@ -72,9 +70,9 @@ module _ (ev : Evaluation) (segs : List Segment) where
   unfolding look
   look_framed leg kept s i h = go (leaves s leg) (ev s i leg.et)
     where
-      go : (b : Bool) (e : Evaluated) → framed_step (cond b (seen kept s e) kept) ≡ true
-      go true (evaluation.State x) = met_framed kept s x h
-      go true (evaluation.Refused r) = refl
+      go : (b : Bool) (e : Result Valued Refusal) → framed_step (cond b (seen kept s e) kept) ≡ true
+      go true (Ok x) = met_framed kept s x h
+      go true (Err r) = refl
       go false e = h
 
   step_framed : (leg : Leg) (kept : Step) (i r : ℕ) → framed_step kept ≡ true → framed_step (step_in ev segs leg kept i r) ≡ true
@@ -90,9 +88,9 @@ module _ (ev : Evaluation) (segs : List Segment) where
       go false p q = q
 
   -- what a walk ends with
-  abbrev framed_end : Yielded → Bool
-  framed_end (yielded.Given g) = is_framed g.frame
-  framed_end (yielded.Refused r) = true
+  abbrev framed_end : Result Given Refusal → Bool
+  framed_end (Ok g) = is_framed g.frame
+  framed_end (Err r) = true
 
   walk_framed : (n : ℕ) (leg : Leg) (left : ℕ) → framed_end (walk_from ev segs n leg left) ≡ true
   unfolding walk_from step_from
@@ -111,5 +109,5 @@ module _ (ev : Evaluation) (segs : List Segment) where
       go ih (Refused r) h = refl
 
   -- a walk from another body than 0 that ends with a state
-  pub zero_framed : (n : ℕ) (leg : Leg) (g : Given) → is_zero leg ≡ false → to_zero ev segs n leg ≡ yielded.Given g → is_framed g.frame ≡ true
+  pub zero_framed : (n : ℕ) (leg : Leg) (g : Given) → is_zero leg ≡ false → to_zero ev segs n leg ≡ Ok g → is_framed g.frame ≡ true
   zero_framed n leg g z h = ap framed_end (sym h ∙ zero_walk ev segs n leg z) ∙ walk_framed n leg chain_limit

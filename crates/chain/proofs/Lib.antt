@@ -1,7 +1,9 @@
 -- Laws that belong to no one function.
 pub mod Steps
+pub mod Visited
 pub mod TwoAnswers
 pub mod Walks
+pub mod Walked
 pub mod Ends
 pub mod Failing
 pub mod Own

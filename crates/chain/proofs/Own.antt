@@ -6,7 +6,9 @@ use Prim.Native.Nat.{ℕ, zero, suc}
 use lib.Ieee.{Float}
 use Rattle.bits.proofs.Tests.{by_test_lem}
 use Rattle.segment.specs.declared.Segment.{Segment}
-use Rattle.segment.specs.declared.Evaluated.{Evaluated}
+use Rattle.std.proofs.Common.{Result}
+use Rattle.refusal.specs.declared.Refusal.{Refusal}
+use Rattle.segment.specs.declared.Valued.{Valued}
 use Rattle.table.specs.Segments.{seg}
 use Rattle.chain.specs.declared.Leg.{Leg}
 use Rattle.chain.specs.declared.Step.{Step}
@@ -48,7 +50,7 @@ module _ (ev ev' : Evaluation) (segs : List Segment) where
   unfolding look
   look_alike leg kept i same =
       by_test_lem (leaves (seg segs i) leg)
-      (λ l. ap (λ (e : Evaluated). cond (leaves (seg segs i) leg) (seen kept (seg segs i) e) kept) (same l leg.et))
+      (λ l. ap (λ (e : Result Valued Refusal). cond (leaves (seg segs i) leg) (seen kept (seg segs i) e) kept) (same l leg.et))
       (λ l. sym (look_past ev leg kept (seg segs i) i l) ∙ look_past ev' leg kept (seg segs i) i l)
 
   step_alike : (leg : Leg) (kept : Step) (i r : ℕ) → TouchedIn ev segs (Alike ev ev' segs) leg kept i r

@@ -1,24 +1,21 @@
--- Laws of a step's scan: of `met` and `look`, one for each way through the code, and of `step_in`, a turn of the loop. Assumes nothing.
+-- Laws of a step's scan: of `met` and `look`, one for each way through the code. Assumes nothing.
 use mathlib.Core.Path.{◌≡◌, refl, sym, ap, ap₂, ◌∙◌}
 use mathlib.Core.Bool.{Bool, true, false, cond}
 use mathlib.Core.List.{List}
-use Prim.Native.Nat.{ℕ, suc, ◌+◌, ◌-◌, ◌≤◌, ◌<◌}
-use native.Mathlib.Numerals.{add-one}
-use native.Mathlib.Omega.{arith}
+use Prim.Native.Nat.{ℕ}
 use lib.IntN.{ℤ}
 use Rattle.frame.specs.declared.State.{State}
 use Rattle.frame.specs.declared.Given.{Given}
 use Rattle.frame.specs.Given.{given_of}
 use Rattle.segment.specs.declared.Segment.{Segment}
 use Rattle.segment.specs.declared.Valued.{Valued}
-use Rattle.segment.specs.declared.Evaluated.{Evaluated}
-use Rattle.segment.specs.declared.Evaluated.TheVariants as evaluation
-use Rattle.table.specs.Segments.{seg}
+use Rattle.std.proofs.Common.{Result, Ok}
+use Rattle.refusal.specs.declared.Refusal.{Refusal}
 use Rattle.chain.specs.declared.Leg.{Leg}
 use Rattle.chain.specs.declared.Hop.{Hop}
 use Rattle.chain.specs.declared.Step.{Step}
 use Rattle.chain.specs.declared.Step.TheVariants.{Blocked, Kept, Zero}
-use Rattle.chain.specs.Step.{Evaluation, leaves, reaches_zero, given_by, kept_or, met, seen, look, is_end, place_after, step_in, step_from}
+use Rattle.chain.specs.Step.{Evaluation, leaves, reaches_zero, given_by, kept_or, met, seen, look, step_in, step_from}
 
 -- what is given in two frames that are one
 pub given_in : (x : State) (b : Bool) {f g : ℤ} → f ≡ g → given_of x f b ≡ given_of x g b
@@ -48,53 +45,17 @@ module _ (ev : Evaluation) (leg : Leg) (kept : Step) (s : Segment) (i : ℕ) whe
   look_past e = sym (ap (λ (b : Bool). cond b (seen kept s (ev s i leg.et)) kept) e)
 
   -- it is evaluated
-  pub look_seen : (e : Evaluated) → leaves s leg ≡ true → ev s i leg.et ≡ e → seen kept s e ≡ look ev leg kept s i
+  pub look_seen : (e : Result Valued Refusal) → leaves s leg ≡ true → ev s i leg.et ≡ e → seen kept s e ≡ look ev leg kept s i
   unfolding look
   look_seen e l h =
       ap (seen kept s) (sym h) ∙ sym (ap (λ (b : Bool). cond b (seen kept s (ev s i leg.et)) kept) l)
 
   -- it gives a state
-  pub look_given : (x : Valued) (g : Given) (next : Step) → leaves s leg ≡ true → ev s i leg.et ≡ evaluation.State x → g ≡ given_by s x → next ≡ met kept s g → next ≡ look ev leg kept s i
-  look_given x g next l h e t = t ∙ ap (met kept s) e ∙ look_seen (evaluation.State x) l h
+  pub look_given : (x : Valued) (g : Given) (next : Step) → leaves s leg ≡ true → ev s i leg.et ≡ Ok x → g ≡ given_by s x → next ≡ met kept s g → next ≡ look ev leg kept s i
+  look_given x g next l h e t = t ∙ ap (met kept s) e ∙ look_seen (Ok x) l h
 
--- ---- the place that the scan looks at next
-module _ (next : Step) (i n : ℕ) where
-  place : Bool → ℕ
-  place b = cond b n (i + 1)
-
-  pub place_most : i < n → place_after next i n ≤ n
-  place_most h = go (is_end next)
-    where
-      go : (b : Bool) → cond b n (i + 1) ≤ n
-      go true = omega arith
-      go false = omega arith
-
-  pub place_less : i < n → n - place_after next i n < n - i
-  place_less h = go (is_end next)
-    where
-      go : (b : Bool) → n - cond b n (i + 1) < n - i
-      go true = omega arith
-      go false = omega arith
-
--- ---- a turn of the loop
+-- ---- the whole scan
 module _ (ev : Evaluation) (segs : List Segment) (leg : Leg) where
-  pub step_end : (kept : Step) (i r : ℕ) → r ≡ 0 → step_in ev segs leg kept i r ≡ kept
-  unfolding step_in
-  step_end kept i r e = ap (step_in ev segs leg kept i) e
-
-  pub step_turn : (kept next : Step) (i n : ℕ) → i < n → next ≡ look ev leg kept (seg segs i) i
-      → step_in ev segs leg kept i (n - i) ≡ step_in ev segs leg next (place_after next i n) (n - place_after next i n)
-  unfolding step_in
-  step_turn kept next i n h e =
-      let left : n - i ≡ suc (n - (i + 1)) = omega arith in
-      ap (step_in ev segs leg kept i) left
-      ∙ ap (λ (x : Step). cond (is_end x) x (step_in ev segs leg x (suc i) (n - (i + 1)))) (sym e)
-      ∙ go (is_end next)
-    where
-      go : (b : Bool) → cond b next (step_in ev segs leg next (suc i) (n - (i + 1))) ≡ step_in ev segs leg next (cond b n (i + 1)) (n - cond b n (i + 1))
-      go true = sym (step_end next n (n - n) (omega arith))
-      go false = ap (λ (j : ℕ). step_in ev segs leg next j (n - (i + 1))) (sym (add-one i))
-
   pub step_from_lem : (n : ℕ) → step_from ev segs n leg ≡ step_in ev segs leg Blocked 0 n
   unfolding step_from
   step_from_lem n = refl

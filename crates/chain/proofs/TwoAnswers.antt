@@ -9,7 +9,6 @@ use contract.Monad.{Fun}
 use Rattle.promised.specs.Promised.{Determined}
 use Rattle.promised.proofs.Alike.{equal}
 use Rattle.chain.specs.contracts.leaves as m-leaves
-use Rattle.chain.specs.contracts.Step.place_after as m-step-place-after
 use Rattle.chain.specs.contracts.look as m-look
 use Rattle.chain.specs.contracts.advance as m-advance
 use Rattle.chain.specs.contracts.is_zero as m-is-zero
@@ -20,9 +19,6 @@ use Rattle.chain.specs.contracts.leg_of as m-leg-of
 module _ {M : Type 1} {𝓤 : Ura M} (𝓛 : Logic 𝓤) (mem : Memory → SProp 𝓤) (run : Routine → Fun 𝓤) where
   pub two_leaves : Determined 𝓤 m-leaves.ended (m-leaves.clauses 𝓛 mem run)
   two_leaves κs a g r r' ws ws' = equal 𝓤 refl
-
-  pub two_step_place_after : Determined 𝓤 m-step-place-after.ended (m-step-place-after.clauses 𝓛 mem run)
-  two_step_place_after κs a g r r' ws ws' = equal 𝓤 refl
 
   pub two_look : Determined 𝓤 m-look.ended (m-look.clauses 𝓛 mem run)
   two_look κs a g r r' ws ws' = equal 𝓤 refl

@@ -1,7 +1,7 @@
 -- The walk of a chain as it was defined before a state said whether a record was stretched, for one statement alone: that state, frame and refusal are
 -- those of then (`Before` in `proofs`). It is the walk of `Step` and `Walk`, with a state and its frame where those have the word too. Assumes nothing:
 -- these are definitions.
-use Rattle.std.specs.Prelude.{ℕ, zero, suc, Bool, true, false, cond, ◌&&◌, List, ℤ, pos, Float}
+use Rattle.std.specs.Prelude.{ℕ, zero, suc, Bool, true, false, cond, ◌&&◌, List, ℤ, pos, Float, Result, Ok, Err}
 use Rattle.bits.specs.Same.{same_z}
 use Rattle.frame.specs.declared.State.{State}
 use Rattle.frame.specs.declared.Given.{Given}
@@ -14,8 +14,6 @@ use Rattle.refusal.specs.declared.Refusal.TheVariants.{NoCoverage}
 use Rattle.segment.specs.declared.Segment.{Segment}
 use Rattle.segment.specs.Before.{OldEvaluated, Gives, Refuses, bare_evaluated}
 use Rattle.table.specs.Segments.{is_covering, seg}
-use Rattle.chain.specs.declared.Yielded.{Yielded}
-use Rattle.chain.specs.declared.Yielded.TheVariants as yielded
 use Rattle.chain.specs.declared.Leg.{Leg}
 use Rattle.chain.specs.Step.{Evaluation, reaches_zero}
 use Rattle.chain.specs.Walk.{chain_limit}
@@ -144,9 +142,9 @@ abbrev pub bare_given : Given → OldGiven
 bare_given g = record { state = g.state; frame = g.frame }
 
 -- What a walk ended with.
-abbrev pub bare : Yielded → OldYielded
-bare (yielded.Given g) = Gave (bare_given g)
-bare (yielded.Refused r) = Refusing r
+abbrev pub bare : Result Given Refusal → OldYielded
+bare (Ok g) = Gave (bare_given g)
+bare (Err r) = Refusing r
 
 -- A leg.
 abbrev pub bare_leg : Leg → OldLeg

@@ -1,9 +1,8 @@
 -- The segments whose numbers enter a walk's sum: those that its steps take, and not those that are evaluated and passed over. Assumes nothing: these
 -- are definitions.
-use Rattle.std.specs.Prelude.{ℕ, zero, suc, ◌<◌, ◌≡◌, true, false, ◌⊎◌, List}
+use Rattle.std.specs.Prelude.{ℕ, zero, suc, ◌<◌, ◌≡◌, true, false, ◌⊎◌, List, Ok}
 use Rattle.segment.specs.declared.Segment.{Segment}
 use Rattle.segment.specs.declared.Valued.{Valued}
-use Rattle.segment.specs.declared.Evaluated.TheVariants as evaluation
 use Rattle.table.specs.Segments.{seg}
 use Rattle.chain.specs.declared.Leg.{Leg}
 use Rattle.chain.specs.declared.Hop.{Hop}
@@ -24,7 +23,7 @@ First ev segs n leg i = ((j : ℕ) → j < i → leaves (seg segs j) leg ≡ fal
 pub record Taken (ev : Evaluation) (segs : List Segment) (n : ℕ) (leg : Leg) (i : ℕ) (v : Valued) : Type 0 where
   pub below : i < n
   pub leaving : leaves (seg segs i) leg ≡ true
-  pub gives : ev (seg segs i) i leg.et ≡ evaluation.State v
+  pub gives : ev (seg segs i) i leg.et ≡ Ok v
   pub chosen : Home ev segs leg i ⊎ First ev segs n leg i
 
 -- Segment i, which gives v, enters the sum of a walk of at most so many steps: its step takes it; or the step leads to a body that is not the starting

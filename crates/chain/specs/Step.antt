@@ -1,30 +1,27 @@
 -- One step of a chain: the scan of the segments that leave the current body. Assumes nothing: these are definitions.
-use Rattle.std.specs.Prelude.{ℕ, zero, suc, ◌+◌, Bool, true, false, cond, ◌&&◌, List, pos, Float}
+use Rattle.std.specs.Prelude.{ℕ, zero, suc, Bool, true, false, cond, ◌&&◌, List, pos, Float, Result, Ok, Err}
 use Rattle.bits.specs.Same.{same_z}
 use Rattle.frame.specs.declared.Given.{Given}
 use Rattle.frame.specs.Given.{given_of}
 use Rattle.segment.specs.declared.Segment.{Segment}
 use Rattle.segment.specs.declared.Valued.{Valued}
-use Rattle.segment.specs.declared.Evaluated.{Evaluated}
-use Rattle.segment.specs.declared.Evaluated.TheVariants as evaluation
+use Rattle.refusal.specs.declared.Refusal.{Refusal}
 use Rattle.table.specs.Segments.{is_covering, seg}
-use Rattle.chain.specs.declared.Yielded.{Yielded}
-use Rattle.chain.specs.declared.Yielded.TheVariants as yielded
 use Rattle.chain.specs.declared.Leg.{Leg}
 use Rattle.chain.specs.declared.Step.{Step}
 use Rattle.chain.specs.declared.Step.TheVariants.{Blocked, Kept, Zero, Refused}
 
 -- An evaluation of segments by their numbers at an epoch: `evaluated Spk k` for a kernel k.
 abbrev pub Evaluation : Type 0
-Evaluation = Segment → ℕ → Float → Evaluated
+Evaluation = Segment → ℕ → Float → Result Valued Refusal
 
 -- What a segment gives: its state is in its own frame, with its word.
 abbrev pub given_by : Segment → Valued → Given
 given_by s x = given_of x.state s.frame x.stretched
 
-abbrev pub yield_of : Segment → Evaluated → Yielded
-yield_of s (evaluation.State x) = yielded.Given (given_by s x)
-yield_of s (evaluation.Refused r) = yielded.Refused r
+abbrev pub yield_of : Segment → Result Valued Refusal → Result Given Refusal
+yield_of s (Ok x) = Ok (given_by s x)
+yield_of s (Err r) = Err r
 
 -- The segment's target is the current body, and it covers the epoch.
 abbrev pub leaves : Segment → Leg → Bool
@@ -46,9 +43,9 @@ unfoldable pub met : Step → Segment → Given → Step
 met kept s x = cond (reaches_zero s) (Zero x) (kept_or kept (Kept (record { center = s.center; given = x })))
 
 -- The same by what evaluating it resulted in: any refusal ends all.
-abbrev pub seen : Step → Segment → Evaluated → Step
-seen kept s (evaluation.State x) = met kept s (given_by s x)
-seen kept s (evaluation.Refused r) = Refused r
+abbrev pub seen : Step → Segment → Result Valued Refusal → Step
+seen kept s (Ok x) = met kept s (given_by s x)
+seen kept s (Err r) = Refused r
 
 -- The scan with segment i: each covering segment of the current body is evaluated, the others are passed over.
 unfoldable pub look : Evaluation → Leg → Step → Segment → ℕ → Step
@@ -60,10 +57,6 @@ is_end Blocked = false
 is_end (Kept hop) = false
 is_end (Zero x) = true
 is_end (Refused r) = true
-
--- The place that the scan looks at next, of n.
-abbrev pub place_after : Step → ℕ → ℕ → ℕ
-place_after step i n = cond (is_end step) n (i + 1)
 
 -- The scan goes on over r segments from number i on. There is one recursive call: with one in each arm of a `cond` a closed case
 -- would take 2 ^ r steps.

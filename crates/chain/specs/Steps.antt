@@ -1,9 +1,9 @@
 -- What the small functions of the code do. No promise of a public entry point needs these. Assumes nothing: these are definitions.
-use Rattle.std.specs.Prelude.{ℕ, Bool, true, cond, eqb, pos}
+use Rattle.std.specs.Prelude.{ℕ, Bool, true, cond, eqb, pos, Result, Ok}
 use Rattle.bits.specs.F64.{+0}
 use Rattle.frame.specs.Given.{nothing_given}
-use Rattle.chain.specs.declared.Yielded.{Yielded}
-use Rattle.chain.specs.declared.Yielded.TheVariants as yielded
+use Rattle.frame.specs.declared.Given.{Given}
+use Rattle.refusal.specs.declared.Refusal.{Refusal}
 use Rattle.chain.specs.declared.Leg.{Leg}
 use Rattle.chain.specs.declared.Next.{Next}
 use Rattle.chain.specs.declared.Next.TheVariants.{Ended, Onward}
@@ -14,7 +14,7 @@ abbrev pub is_over : Next → ℕ → Bool
 is_over (Ended e) left = true
 is_over (Onward leg) left = eqb left 0
 
-abbrev pub end_of : Next → Yielded
+abbrev pub end_of : Next → Result Given Refusal
 end_of (Ended e) = e
 end_of (Onward leg) = no_coverage leg.start
 
@@ -24,4 +24,4 @@ leg_of (Onward leg) = leg
 
 -- Where a walk starts: body 0 takes no step.
 unfoldable pub begin : Leg → Next
-begin leg = cond (is_zero leg) (Ended (yielded.Given leg.total)) (Onward leg)
+begin leg = cond (is_zero leg) (Ended (Ok leg.total)) (Onward leg)

@@ -1,10 +1,9 @@
 -- When a walk ends in a refusal: what the statements about refusal 11, and about a segment's own, say. Assumes nothing: these are definitions.
-use Rattle.std.specs.Prelude.{ℕ, zero, suc, ◌<◌, ◌≡◌, Bool, true, false, ◌||◌, ◌⊎◌, List, eqb, Float, ℤ}
+use Rattle.std.specs.Prelude.{ℕ, zero, suc, ◌<◌, ◌≡◌, Bool, true, false, ◌||◌, ◌⊎◌, List, eqb, Float, ℤ, Ok, Err}
 use Rattle.refusal.specs.declared.Refusal.{Refusal}
 use Rattle.refusal.specs.Numbers.{number_of}
 use Rattle.segment.specs.declared.Segment.{Segment}
 use Rattle.segment.specs.declared.Valued.{Valued}
-use Rattle.segment.specs.declared.Evaluated.TheVariants as evaluation
 use Rattle.table.specs.Segments.{seg}
 use Rattle.chain.specs.declared.Leg.{Leg}
 use Rattle.chain.specs.declared.Hop.{Hop}
@@ -19,7 +18,7 @@ is_own r = eqb (number_of r) 12 || eqb (number_of r) 13 || eqb (number_of r) 14
 
 -- An evaluation gives no other.
 abbrev pub OwnOnly : Evaluation → Type 0
-OwnOnly ev = (s : Segment) (i : ℕ) (et : Float) (r : Refusal) → ev s i et ≡ evaluation.Refused r → is_own r ≡ true
+OwnOnly ev = (s : Segment) (i : ℕ) (et : Float) (r : Refusal) → ev s i et ≡ Err r → is_own r ≡ true
 
 -- One of two statements, by a test.
 abbrev pub by_test : Bool → Type 0 → Type 0 → Type 0
@@ -42,13 +41,13 @@ Stuck ev segs n leg (suc left) b = stuck_after leg b (λ on. Stuck ev segs n on 
 -- A step's scan goes past segment j: it doesn't leave the body, or it is evaluated to a state and its center is not body 0.
 abbrev pub Past : Evaluation → List Segment → Leg → ℕ → Type 0
 Past ev segs leg j =
-    leaves (seg segs j) leg ≡ true → (reaches_zero (seg segs j) ≡ false) × ((x : Valued) × (ev (seg segs j) j leg.et ≡ evaluation.State x))
+    leaves (seg segs j) leg ≡ true → (reaches_zero (seg segs j) ≡ false) × ((x : Valued) × (ev (seg segs j) j leg.et ≡ Ok x))
 
 -- A step is refused with r by segment i: it leaves the body and is evaluated to r, and the scan goes past every segment before it.
 pub record RefusedAt (ev : Evaluation) (segs : List Segment) (n : ℕ) (leg : Leg) (i : ℕ) (r : Refusal) : Type 0 where
   pub below : i < n
   pub leaving : leaves (seg segs i) leg ≡ true
-  pub gives : ev (seg segs i) i leg.et ≡ evaluation.Refused r
+  pub gives : ev (seg segs i) i leg.et ≡ Err r
   pub past : (j : ℕ) → j < i → Past ev segs leg j
 
 -- A walk of at most so many steps is refused with r by segment i: its step is; or the step leads to a body that is not the starting one, and the

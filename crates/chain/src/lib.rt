@@ -6,14 +6,19 @@ ghost use Rattle.std.specs.Prelude.{◌≡◌, true, ◌<◌};
 ghost use Rattle.daf.specs.declared.Family.TheVariants.{Spk};
 ghost use Rattle.segment.specs.Evaluating.{evaluated};
 ghost use Rattle.table.specs.Places.{lent_limit};
-ghost use Rattle.chain.specs.Step.{leaves, reaches_zero, met, look, place_after};
+ghost use Rattle.chain.specs.Step.{leaves, reaches_zero, met, look};
 ghost use Rattle.chain.specs.Walk.{no_coverage, onward, returns, advance, is_zero};
 ghost use Rattle.chain.specs.Steps.{is_over, end_of, leg_of};
 
+mod along;
+mod walking;
+
+pub use along::step_along;
 use daf::Family;
 use frame::Given;
 use refusal::Refusal;
-use segment::{Evaluated, Segment};
+use segment::Segment;
+pub use walking::walk;
 
 // Where a walk is: the body that it started from, the current one, the epoch, and the sum so far.
 #[derive(Clone, Copy)]
@@ -45,17 +50,10 @@ pub enum Step {
     Refused(Refusal),
 }
 
-// What segments gave together, or the refusal that came of them.
-#[derive(Clone, Copy)]
-pub enum Yielded {
-    Given(Given),
-    Refused(Refusal),
-}
-
-// What the walk results in after a step: its end, or the next leg.
+// What the walk results in after a step: its end, which is what segments gave together or the refusal that came of them, or the next leg.
 #[derive(Clone, Copy)]
 pub enum Next {
-    Ended(Yielded),
+    Ended(Result<Given, Refusal>),
     Onward(Leg),
 }
 
@@ -91,19 +89,6 @@ impl Step {
             Step::Refused(r) => Step::Refused(r),
         }
     }
-
-    // The place that the scan looks at next, of n: past them all once it has ended.
-    pub fn place_after(self, i: usize, n: usize) -> usize
-        requires { i < n }
-        ensures { result ≡ place_after self i n }
-    {
-        match self {
-            Step::Blocked => i + 1,
-            Step::Kept(_) => i + 1,
-            Step::Zero(_) => n,
-            Step::Refused(_) => n,
-        }
-    }
 }
 
 // The scan with segment i, which leaves the body, evaluated.
@@ -111,25 +96,24 @@ pub fn look(kernel: &[u8], leg: Leg, kept: Step, s: Segment, i: usize) -> Step
     requires { (i < lent_limit) × (leaves s leg ≡ true) }
     ensures { result ≡ look (evaluated Spk kernel.now) leg kept s i }
 {
-    let e = segment::evaluate(kernel, Family::Spk, s, i as u32, leg.et);
-    match e {
-        Evaluated::Refused(r) => Step::Refused(r),
-        Evaluated::State(x) => kept.met(s, Given::of(x.state, s.frame, x.stretched)),
+    match segment::evaluate(kernel, Family::Spk, s, i as u32, leg.et) {
+        Err(r) => Step::Refused(r),
+        Ok(x) => kept.met(s, Given::of(x.state, s.frame, x.stretched)),
     }
 }
 
 // The walk ends with refusal 11 for the current body, which no segment leaves.
-fn blocked(leg: Leg) -> Yielded
+fn blocked(leg: Leg) -> Result<Given, Refusal>
     ensures { result ≡ no_coverage leg.body }
 {
-    Yielded::Refused(Refusal::NoCoverage(leg.body))
+    Err(Refusal::NoCoverage(leg.body))
 }
 
 // The walk ends with refusal 11 for the starting body.
-fn no_way(leg: Leg) -> Yielded
+fn no_way(leg: Leg) -> Result<Given, Refusal>
     ensures { result ≡ no_coverage leg.start }
 {
-    Yielded::Refused(Refusal::NoCoverage(leg.start))
+    Err(Refusal::NoCoverage(leg.start))
 }
 
 // The leg after a hop.
@@ -158,8 +142,8 @@ pub fn advance(leg: Leg, step: Step) -> Next
 {
     match step {
         Step::Blocked => Next::Ended(blocked(leg)),
-        Step::Refused(r) => Next::Ended(Yielded::Refused(r)),
-        Step::Zero(x) => Next::Ended(Yielded::Given(leg.total.plus(x))),
+        Step::Refused(r) => Next::Ended(Err(r)),
+        Step::Zero(x) => Next::Ended(Ok(leg.total.plus(x))),
         Step::Kept(hop) => {
             if returns(leg, hop) {
                 return Next::Ended(no_way(leg));
@@ -189,7 +173,7 @@ pub fn is_over(at: Next, left: u32) -> bool
 }
 
 // What a walk that is over results in.
-pub fn end_of(at: Next) -> Yielded
+pub fn end_of(at: Next) -> Result<Given, Refusal>
     ensures { result ≡ end_of at }
 {
     match at {

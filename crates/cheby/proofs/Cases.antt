@@ -4,7 +4,7 @@ use mathlib.Core.Path.{◌≡◌, refl}
 use mathlib.Core.List.{List, [], ◌∷◌}
 use lib.Ieee.{Float, add, sub, mul, div, eq, neg, of_bits, of_int}
 use Rattle.bits.specs.F64.{◌⊘◌, at, +0, one, whole}
-use Rattle.cheby.specs.declared.Cheby.TheVariants.{NoRadius}
+use Rattle.std.proofs.Common.{None}
 use Rattle.cheby.specs.Cheby.{series_at, slope_at, value_of, rate_of, record2, record3}
 
 abbrev pub half : Float
@@ -24,7 +24,7 @@ unfolding series_at slope_at add sub mul div neg of_bits of_int
 case_first = (refl, refl, refl)
 
 -- RADIUS +0 and -0 are refused in type 2; a type 3 record of one coefficient still answers.
-pub case_zero : (record2 (at (whole 0 ∷ +0 ∷ series)) 1 (whole 1) ≡ NoRadius) × (record2 (at (whole 0 ∷ -0 ∷ series)) 1 (whole 1) ≡ NoRadius)
+pub case_zero : (record2 (at (whole 0 ∷ +0 ∷ series)) 1 (whole 1) ≡ None) × (record2 (at (whole 0 ∷ -0 ∷ series)) 1 (whole 1) ≡ None)
     × (record3 (at (whole 0 ∷ +0 ∷ whole 7 ∷ whole 8 ∷ whole 9 ∷ series)) 1 (whole 1)
     ≡ record { x = whole 7; y = whole 8; z = whole 9; vx = whole 1; vy = whole 2; vz = whole 3 })
 unfolding record2 record3 value_of rate_of series_at slope_at add sub mul div eq neg of_bits of_int

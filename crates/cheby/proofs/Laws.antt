@@ -1,7 +1,7 @@
 -- What a turn of the loops does to the definitions. Each law takes what the calls of the turn ensure as equations, so that a proof only hands them over.
 -- Assumes nothing.
 use Prim.Native.Nat.{ℕ, zero, suc, ◌<◌}
-use mathlib.Core.Path.{◌≡◌, refl}
+use mathlib.Core.Path.{◌≡◌, refl, sym, ap, ◌∙◌}
 use mathlib.Core.List.{List}
 use native.Mathlib.Omega.{arith}
 use lib.Ieee.{Float}
@@ -10,7 +10,11 @@ use Rattle.cheby.specs.declared.Triple.{Triple}
 use Rattle.cheby.specs.Cheby.{T, T', series_at, slope_at}
 use Rattle.cheby.specs.declared.Run.{Run}
 use Rattle.cheby.specs.declared.SixRun.{SixRun}
-use Rattle.cheby.specs.Steps.{each, none, slopes, scaled, added, begun, turned, six_turned, Summed, SixSummed}
+use Rattle.cheby.specs.Steps.{each, none, values, slopes, scaled, added, begun, turned, six_turned, Summed, SixSummed}
+
+-- series that stand at the same place
+pub each_at : (g : (ℕ → Float) → Float) {kernel kernel' : List ℕ} {q q' n n' : ℕ} {r : Triple} → (kernel ≡ kernel') × (q ≡ q') × (n ≡ n') → r ≡ each g kernel q n → r ≡ each g kernel' q' n'
+each_at g e h = h ∙ (λ i. each g (e.0 i) (e.1 i) (e.2 i))
 
 module _ (s : Float) (j : ℕ) where
   -- the next polynomial
@@ -70,6 +74,11 @@ module _ (kernel : List ℕ) (q n : ℕ) (s : Float) where
       let d = T'-turn s j h.last h.rate_before h.rate_last in
       rw er (record { before = h.last; last = t; rate_before = h.rate_last; rate_last = d; value = values_turn j ek t ec h.value refl; slope = slopes_turn j ek d ec h.slope refl })
 
+  -- all terms
+  pub summed_all : (j : ℕ) {z : Run} → n ≡ suc (suc j) → Summed kernel q n s j z → (z.value ≡ values kernel q n s) × (z.slope ≡ slopes kernel q n s)
+  summed_all j e h =
+      (h.value ∙ ap (λ (m : ℕ). each (λ f. series_at f m s) kernel q n) (sym e), h.slope ∙ ap (λ (m : ℕ). each (λ f. slope_at f m s) kernel q n) (sym e))
+
 -- of six series
 module _ (kernel : List ℕ) (p q n : ℕ) (s : Float) where
   pub six_summed : (j : ℕ) {k : ℕ} {z r : SixRun} → k ≡ suc (suc j) → SixSummed kernel p q n s j z → r ≡ six_turned z (each (λ f. f k) kernel p n) (each (λ f. f k) kernel q n) (two ⊗ s)
@@ -77,3 +86,7 @@ module _ (kernel : List ℕ) (p q n : ℕ) (s : Float) where
   six_summed j ek h er =
       let t = T-turn s j h.before h.last in
       rw er (record { before = h.last; last = t; first = values_turn kernel p n s j ek t refl h.first refl; second = values_turn kernel q n s j ek t refl h.second refl })
+
+  pub six_all : (j : ℕ) {z : SixRun} → n ≡ suc (suc j) → SixSummed kernel p q n s j z → (z.first ≡ values kernel p n s) × (z.second ≡ values kernel q n s)
+  six_all j e h =
+      (h.first ∙ ap (λ (m : ℕ). each (λ f. series_at f m s) kernel p n) (sym e), h.second ∙ ap (λ (m : ℕ). each (λ f. series_at f m s) kernel q n) (sym e))

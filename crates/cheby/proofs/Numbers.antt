@@ -9,7 +9,7 @@ use Prim.Native.Nat.{ℕ, zero, suc, ◌+◌, ◌-◌, ◌*◌, ◌/◌, ◌%◌
 use native.Mathlib.Nat.{eq-or-lt_of_le, add-zero}
 use native.Mathlib.Omega.{arith}
 use lib.Dec.{ltb}
-use lib.Ieee.{Float, nan, inf, fin, Format, binary32, binary64, is_nan, of_bits, nan_bits, add, sub, neg, le}
+use lib.Ieee.{Float, nan, inf, fin, Format, binary32, binary64, is_nan, of_bits, nan_bits, sub, neg, le}
 use lib.Ieee.Bits.{nan_bits_is, nan_bits_above}
 use borrow.Author.Tests.{le-ltb, ltb-true, ltb-false}
 use Rattle.bits.proofs.Finite.{sum_finite}

@@ -12,7 +12,7 @@ use Rattle.bits.proofs.Whole.{record_lt}
 use Rattle.frame.specs.declared.State.{State}
 use Rattle.cheby.specs.declared.Chosen.{Chosen}
 use Rattle.cheby.specs.declared.Triple.{Triple}
-use Rattle.cheby.specs.declared.Cheby.TheVariants.{Value, NoRadius}
+use Rattle.std.proofs.Common.{Some, None}
 use Rattle.cheby.specs.Cheby.{series_at, slope_at, coefficient, argument, value_of, rate_of, unless_zero, record2, record3, record_for, type2_of, type3_of}
 use Rattle.cheby.specs.Steps.{values, slopes, scaled, joined}
 
@@ -49,9 +49,9 @@ module _ (kernel : List ℕ) (p n : ℕ) where
 
     -- where RADIUS is not zero
     pub type2_some : {val der vel : Triple} {r : State} → eq (double_at kernel (p + 8)) +0 ≡ false → val ≡ values kernel (p + 16) n s → der ≡ slopes kernel (p + 16) n s
-        → vel ≡ scaled der (one ⊘ radius) → r ≡ joined val vel → Value r ≡ type2_of kernel p n et
+        → vel ≡ scaled der (one ⊘ radius) → r ≡ joined val vel → Some r ≡ type2_of kernel p n et
     unfolding record2
-    type2_some t ev ed ew ej = rw (ej, ew, ed, ev, t) (λ i. Value (record {
+    type2_some t ev ed ew ej = rw (ej, ew, ed, ev, t) (λ i. Some (record {
       x = value_at_lem 0 (p + 16) (omega arith) i;
       y = value_at_lem 1 (p + 16 + 8 * n) (omega arith) i;
       z = value_at_lem 2 (p + 16 + 16 * n) (omega arith) i;
@@ -79,16 +79,16 @@ pub record_below : (init intlen et : Float) (n : ℕ) → 1 ≤ n → record_for
 unfolding record_for
 record_below init intlen et n h = record_lt ((et ⊖ init) ⊘ intlen) n h
 
--- a test passed where it gives NoRadius
-refused_test : (b : Bool) (a : State) → unless_zero b a ≡ NoRadius → b ≡ true
+-- a test passed where it gives no state
+refused_test : (b : Bool) (a : State) → unless_zero b a ≡ None → b ≡ true
 refused_test true a e = refl
 refused_test false a e = let z : ◌≡◌ {A = ℕ} 0 1 = cc in absurd (omega arith)
 
 -- a type 2 record is refused where its RADIUS is +0 or -0, and nowhere else
-pub refused_where : (kernel : List ℕ) (p n : ℕ) (et : Float) → eq (double_at kernel (p + 8)) +0 ≡ true → type2_of kernel p n et ≡ NoRadius
+pub refused_where : (kernel : List ℕ) (p n : ℕ) (et : Float) → eq (double_at kernel (p + 8)) +0 ≡ true → type2_of kernel p n et ≡ None
 unfolding record2
 refused_where kernel p n et t = rw t
 
-pub refused_only : (kernel : List ℕ) (p n : ℕ) (et : Float) → type2_of kernel p n et ≡ NoRadius → eq (double_at kernel (p + 8)) +0 ≡ true
+pub refused_only : (kernel : List ℕ) (p n : ℕ) (et : Float) → type2_of kernel p n et ≡ None → eq (double_at kernel (p + 8)) +0 ≡ true
 unfolding record2
 refused_only kernel p n et e = refused_test (eq (double_at kernel (p + 8)) +0) _ e

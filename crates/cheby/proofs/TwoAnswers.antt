@@ -10,8 +10,7 @@ use Rattle.promised.specs.Promised.{Determined}
 use Rattle.promised.proofs.Alike.{alike, equal}
 use Rattle.frame.specs.declared.State.{State}
 use Rattle.frame.specs.State.{zero_state}
-use Rattle.cheby.specs.declared.Cheby.{Cheby}
-use Rattle.cheby.specs.declared.Cheby.TheVariants.{Value, NoRadius}
+use Rattle.std.proofs.Common.{Option, Some, None}
 use Rattle.cheby.specs.contracts.record_at as m-record-at
 use Rattle.cheby.specs.contracts.record_of_few as m-record-of-few
 use Rattle.cheby.specs.contracts.no_radius as m-no-radius
@@ -21,9 +20,9 @@ use Rattle.cheby.specs.contracts.type3_at as m-type3-at
 use Rattle.cheby.specs.contracts.state3_at as m-state3-at
 
 -- the state of a value
-abbrev inside : Cheby → State
-inside (Value s) = s
-inside NoRadius = zero_state
+abbrev inside : Option State → State
+inside (Some s) = s
+inside None = zero_state
 
 module _ {M : Type 1} {𝓤 : Ura M} (𝓛 : Logic 𝓤) (mem : Memory → SProp 𝓤) (run : Routine → Fun 𝓤) where
   pub two_record_at : Determined 𝓤 m-record-at.ended (m-record-at.clauses 𝓛 mem run)

@@ -1,7 +1,7 @@
 -- Chebyshev series over binary64, from the mathematics, and the records that hold them: types 2 and 3 of SPK, and type 2 of PCK, which is SPK's with
 -- angles for places. A series is a function c from a place to a coefficient, and a count n: one definition serves every channel and every type.
 -- Assumes nothing.
-use Rattle.std.specs.Prelude.{ℕ, zero, suc, ◌+◌, ◌*◌, Bool, true, false, List, Float}
+use Rattle.std.specs.Prelude.{ℕ, zero, suc, ◌+◌, ◌*◌, Bool, true, false, List, Float, Option, Some, None}
 use Rattle.std.specs.Float.Ieee.{eq}
 use Rattle.bits.specs.F64.{◌⊕◌, ◌⊖◌, ◌⊗◌, ◌⊘◌, +0, one, two, sum_to}
 use Rattle.bits.specs.Bytes.{every}
@@ -9,8 +9,6 @@ use Rattle.bits.specs.Record.{record_of, reach_of}
 use Rattle.bits.specs.declared.Reach.{Reach}
 use Rattle.frame.specs.declared.State.{State}
 use Rattle.cheby.specs.declared.Chosen.{Chosen}
-use Rattle.cheby.specs.declared.Cheby.{Cheby}
-use Rattle.cheby.specs.declared.Cheby.TheVariants.{Value, NoRadius}
 
 -- ---- series
 
@@ -60,12 +58,12 @@ unfoldable pub rate_of : (ℕ → Float) → ℕ → Float → ℕ → Float
 rate_of r n et c = slope_at (coefficient r n c) n (argument r et) ⊗ (one ⊘ r 1)
 
 -- A state, unless RADIUS is zero.
-abbrev pub unless_zero : Bool → State → Cheby
-unless_zero true a = NoRadius
-unless_zero false a = Value a
+abbrev pub unless_zero : Bool → State → Option State
+unless_zero true a = None
+unless_zero false a = Some a
 
 -- Type 2: three series and their derivatives. A RADIUS of +0 or -0 is refused.
-unfoldable pub record2 : (ℕ → Float) → ℕ → Float → Cheby
+unfoldable pub record2 : (ℕ → Float) → ℕ → Float → Option State
 record2 r n et =
     unless_zero (eq (r 1) +0)
     (record {
@@ -108,7 +106,7 @@ abbrev pub chosen_for : Float → Float → Float → ℕ → Chosen
 chosen_for init intlen et n = record { number = record_for init intlen et n; reach = reach_for init intlen et n }
 
 -- The record of type 2 whose first double is at byte p.
-abbrev pub type2_of : List ℕ → ℕ → ℕ → Float → Cheby
+abbrev pub type2_of : List ℕ → ℕ → ℕ → Float → Option State
 type2_of kernel p n et = record2 (every 8 kernel p) n et
 
 -- The record of type 3 whose first double is at byte p.

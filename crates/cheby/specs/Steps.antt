@@ -1,6 +1,6 @@
 -- What the small functions of the code do. No promise of a public function needs these.
 -- Assumes nothing.
-use Rattle.std.specs.Prelude.{ℕ, zero, suc, ◌+◌, ◌*◌, ◌≤◌, ◌≡◌, Bool, true, not, ◌&&◌, List, Float, length}
+use Rattle.std.specs.Prelude.{ℕ, zero, suc, ◌+◌, ◌*◌, ◌≡◌, Bool, true, not, ◌&&◌, List, Float}
 use Rattle.std.specs.Float.Ieee.{is_nan}
 use Rattle.bits.specs.F64.{◌⊕◌, ◌⊖◌, ◌⊗◌, +0, one, two, finite}
 use Rattle.bits.specs.Bytes.{every}
@@ -91,10 +91,3 @@ pub record SixSummed (kernel : List ℕ) (p q n : ℕ) (s : Float) (j : ℕ) (z 
   pub last : z.t1 ≡ T s (suc j)
   pub first : z.first ≡ each (λ f. series_at f (suc (suc j)) s) kernel p n
   pub second : z.second ≡ each (λ f. series_at f (suc (suc j)) s) kernel q n
-
--- Six series, three from byte p and three from byte q on, lie within the kernel, and none of their coefficients is a NaN.
-pub record SixClear (kernel : List ℕ) (p q n : ℕ) : Type 0 where
-  pub first_within : p + 24 * n ≤ length kernel
-  pub second_within : q + 24 * n ≤ length kernel
-  pub first_clear : all_numbers (every 8 kernel p) (3 * n) ≡ true
-  pub second_clear : all_numbers (every 8 kernel q) (3 * n) ≡ true

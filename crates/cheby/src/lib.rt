@@ -4,13 +4,12 @@
 
 #![tactic(auto)]
 
-ghost use Rattle.std.specs.Prelude.{◌≡◌, Bool, true, false, ℕ, ◌+◌, ◌-◌, ◌*◌, ◌%◌, ◌^◌, ◌≤◌, ◌<◌, Float, length};
+ghost use Rattle.std.specs.Prelude.{◌≡◌, Bool, true, false, ℕ, ◌+◌, ◌-◌, ◌*◌, ◌%◌, ◌^◌, ◌≤◌, ◌<◌, Float, length, Some};
 ghost use Rattle.std.specs.Float.Ieee.{is_nan, eq};
 ghost use Rattle.bits.specs.F64.{finite, +0};
 ghost use Rattle.bits.specs.Bytes.{double_of, double_at, every};
-ghost use Rattle.cheby.specs.declared.Cheby.TheVariants.{Value};
-ghost use Rattle.cheby.specs.Cheby.{quotient, chosen_for, type2_of, type3_of};
-ghost use Rattle.cheby.specs.Steps.{all_numbers, all_finite, each, values, slopes, none, scaled, added, joined, begun, turned, six_turned, Summed, SixSummed, SixClear};
+ghost use Rattle.cheby.specs.Cheby.{quotient, chosen_for, series_at, type2_of, type3_of};
+ghost use Rattle.cheby.specs.Steps.{all_numbers, all_finite, each, values, slopes, none, scaled, added, joined, begun, turned, six_turned, Summed, SixSummed};
 
 use bits::Reach;
 use frame::State;
@@ -20,14 +19,6 @@ use frame::State;
 pub struct Chosen {
     pub number: u64,
     pub reach: Reach,
-}
-
-// What a type 2 record gives.
-#[derive(Clone, Copy)]
-pub enum Cheby {
-    Value(State),
-    // RADIUS is +0 or -0.
-    NoRadius,
 }
 
 // A number for each of three series.
@@ -125,11 +116,12 @@ fn all_finite(z: Sums) -> bool
     (0.0 <= z.a - z.a) & (0.0 <= z.b - z.b) & (0.0 <= z.c - z.c) & (0.0 <= z.d - z.d)
 }
 
-// None of the doubles of the type 2 record at byte p is a NaN: one pass without a branch, eight at a time, the last eight once more. Where a
-// power or a sum is infinity without one, it says no as well; the plain way is then gone.
-fn two_clear(kernel: &[u8], p: usize, n: usize) -> bool
-    requires { (2 ≤ n) × (p + 8 * (2 + 3 * n) ≤ length kernel.now) }
-    ensures { result ≡ true → all_numbers (every 8 kernel.now p) (2 + 3 * n) ≡ true }
+// None of the m doubles from byte p on is a NaN: one pass without a branch, eight at a time, the last eight once more. Where a power or a sum is
+// infinity without one, it says no as well; the plain way is then gone. Each type of record has its own copy of the pass: it is no call.
+#[inline(always)]
+fn all_clear(kernel: &[u8], p: usize, m: usize) -> bool
+    requires { (8 ≤ m) × (p + 8 * m ≤ length kernel.now) }
+    ensures { result ≡ true → all_numbers (every 8 kernel.now p) m ≡ true }
 {
     let mut z = Sums {
         a: 0.0,
@@ -137,33 +129,10 @@ fn two_clear(kernel: &[u8], p: usize, n: usize) -> bool
         c: 0.0,
         d: 0.0,
     };
-    let stop = p + 24 * n - 48;
-    let mut at = p;
-    while at < stop {
-        z = less_eight(z, kernel, at);
-        at += 64;
+    for i in 0..(m - 1) / 8 {
+        z = less_eight(z, kernel, p + 64 * i);
     }
-    all_finite(less_eight(z, kernel, stop))
-}
-
-// The same of the type 3 record at byte p. Each has its own pass: one that both called would stay a call.
-fn three_clear(kernel: &[u8], p: usize, n: usize) -> bool
-    requires { (2 ≤ n) × (p + 8 * (2 + 6 * n) ≤ length kernel.now) }
-    ensures { result ≡ true → all_numbers (every 8 kernel.now p) (2 + 6 * n) ≡ true }
-{
-    let mut z = Sums {
-        a: 0.0,
-        b: 0.0,
-        c: 0.0,
-        d: 0.0,
-    };
-    let stop = p + 48 * n - 48;
-    let mut at = p;
-    while at < stop {
-        z = less_eight(z, kernel, at);
-        at += 64;
-    }
-    all_finite(less_eight(z, kernel, stop))
+    all_finite(less_eight(z, kernel, p + 8 * m - 64))
 }
 
 // The double at byte `at`, which is known to be no NaN.
@@ -186,16 +155,26 @@ fn row_at(kernel: &[u8], p: usize, n: usize, k: usize) -> Triple
     }
 }
 
-// The same where none of them is a NaN.
-fn row_clear(kernel: &[u8], p: usize, n: usize, k: usize) -> Triple
-    requires { (k < n) × (p + 24 * n ≤ length kernel.now) × (all_numbers (every 8 kernel.now p) (3 * n) ≡ true) }
-    ensures { result ≡ each (λ f. f k) kernel.now p n }
-{
-    Triple {
-        x: clear_at(kernel, p + 8 * k),
-        y: clear_at(kernel, p + 8 * n + 8 * k),
-        z: clear_at(kernel, p + 16 * n + 8 * k),
-    }
+// Three series of n coefficients each, one after the other from byte `at` of the kernel on, of which none is a NaN. There are two or more in each.
+#[derive(Clone, Copy)]
+struct ClearSeries<'a> {
+    kernel: &'a [u8],
+    at: usize,
+    n: usize,
+    ghost fits: { at + 24 * n ≤ length kernel.now },
+    ghost two: { 2 ≤ n },
+    ghost clear: { all_numbers (every 8 kernel.now at) (3 * n) ≡ true },
+}
+
+// Six such series, one after the other.
+#[derive(Clone, Copy)]
+struct SixSeries<'a> {
+    kernel: &'a [u8],
+    at: usize,
+    n: usize,
+    ghost fits: { at + 48 * n ≤ length kernel.now },
+    ghost two: { 2 ≤ n },
+    ghost clear: { all_numbers (every 8 kernel.now at) (6 * n) ≡ true },
 }
 
 // Three times +0.
@@ -289,47 +268,61 @@ fn val_and_deriv(kernel: &[u8], p: usize, n: usize, s: f64) -> Both
     for k in 2..n {
         z = turned(z, row_at(kernel, p, n, k), twice);
     }
-    let value = z.value;
-    let slope = z.slope;
     Both {
-        value: value,
-        slope: slope,
+        value: z.value,
+        slope: z.slope,
     }
 }
 
-// The first terms where none is a NaN: so many that those left are a multiple of four.
-fn first_terms(kernel: &[u8], p: usize, n: usize, s: f64) -> Run
-    requires { (2 ≤ n) × (p + 24 * n ≤ length kernel.now) × (all_numbers (every 8 kernel.now p) (3 * n) ≡ true) }
-    ensures { Summed kernel.now p n s ((n - 2) % 4) result }
-{
-    let mut z = begun(row_clear(kernel, p, n, 0), row_clear(kernel, p, n, 1), s);
-    let twice = 2.0 * s;
-    for k in 2..2 + (n - 2) % 4 {
-        z = turned(z, row_clear(kernel, p, n, k), twice);
+impl ClearSeries<'_> {
+    // The coefficients of order k.
+    fn row(self, k: usize) -> Triple
+        requires { k < self.n }
+        ensures { result ≡ each (λ f. f k) self.entry.kernel.now self.entry.at self.entry.n }
+    {
+        Triple {
+            x: clear_at(self.kernel, self.at + 8 * k),
+            y: clear_at(self.kernel, self.at + 8 * self.n + 8 * k),
+            z: clear_at(self.kernel, self.at + 16 * self.n + 8 * k),
+        }
     }
-    z
-}
 
-// The three series where none of the coefficients is a NaN, four terms at a time: the last two polynomials then change places in no register.
-fn val_and_deriv_clear(kernel: &[u8], p: usize, n: usize, s: f64) -> Both
-    requires { (2 ≤ n) × (p + 24 * n ≤ length kernel.now) × (all_numbers (every 8 kernel.now p) (3 * n) ≡ true) }
-    ensures { (result.value ≡ values kernel.now p n s) × (result.slope ≡ slopes kernel.now p n s) }
-{
-    let mut z = first_terms(kernel, p, n, s);
-    let twice = 2.0 * s;
-    let mut k = 2 + (n - 2) % 4;
-    while k < n {
-        z = turned(z, row_clear(kernel, p, n, k), twice);
-        z = turned(z, row_clear(kernel, p, n, k + 1), twice);
-        z = turned(z, row_clear(kernel, p, n, k + 2), twice);
-        z = turned(z, row_clear(kernel, p, n, k + 3), twice);
-        k += 4;
+    // The first terms: so many that those left are a multiple of four.
+    fn first_terms(self, s: f64) -> Run
+        ensures { Summed self.entry.kernel.now self.entry.at self.entry.n s ((self.entry.n - 2) % 4) result }
+    {
+        let mut z = begun(self.row(0), self.row(1), s);
+        let twice = 2.0 * s;
+        for k in 2..2 + (self.n - 2) % 4 {
+            z = turned(z, self.row(k), twice);
+        }
+        z
     }
-    let value = z.value;
-    let slope = z.slope;
-    Both {
-        value: value,
-        slope: slope,
+
+    // The values at s, with their derivatives by s, four terms at a time: the last two polynomials then change places in no register.
+    fn val_and_deriv(self, s: f64) -> Both
+        ensures { (result.value ≡ values self.entry.kernel.now self.entry.at self.entry.n s) × (result.slope ≡ slopes self.entry.kernel.now self.entry.at self.entry.n s) }
+    {
+        let mut z = self.first_terms(s);
+        let twice = 2.0 * s;
+        for i in 0..(self.n - 2) / 4 {
+            let k = 2 + (self.n - 2) % 4 + 4 * i;
+            z = turned(z, self.row(k), twice);
+            z = turned(z, self.row(k + 1), twice);
+            z = turned(z, self.row(k + 2), twice);
+            z = turned(z, self.row(k + 3), twice);
+        }
+        Both {
+            value: z.value,
+            slope: z.slope,
+        }
+    }
+
+    // The first two terms, without the derivatives.
+    fn two_terms(self, s: f64) -> Triple
+        ensures { result ≡ each (λ f. series_at f 2 s) self.entry.kernel.now self.entry.at self.entry.n }
+    {
+        plus(times(self.row(0), 1.0), self.row(1), s)
     }
 }
 
@@ -346,67 +339,71 @@ fn six_turned(z: SixRun, c: Triple, e: Triple, twice: f64) -> SixRun
     }
 }
 
-// The coefficients of order k of six series, three from byte p and three from byte q on, as one term more.
-fn six_more(kernel: &[u8], p: usize, q: usize, n: usize, k: usize, z: SixRun, twice: f64) -> SixRun
-    requires { (k < n) × SixClear kernel.now p q n }
-    ensures { result ≡ six_turned z (each (λ f. f k) kernel.now p n) (each (λ f. f k) kernel.now q n) twice }
-{
-    six_turned(
-        z,
-        row_clear(kernel, p, n, k),
-        row_clear(kernel, q, n, k),
-        twice,
-    )
-}
-
-// The first terms of six series: so many that those left are a multiple of four.
-fn six_first(kernel: &[u8], p: usize, q: usize, n: usize, s: f64) -> SixRun
-    requires { (2 ≤ n) × SixClear kernel.now p q n }
-    ensures { SixSummed kernel.now p q n s ((n - 2) % 4) result }
-{
-    let a = plus(
-        times(row_clear(kernel, p, n, 0), 1.0),
-        row_clear(kernel, p, n, 1),
-        s,
-    );
-    let b = plus(
-        times(row_clear(kernel, q, n, 0), 1.0),
-        row_clear(kernel, q, n, 1),
-        s,
-    );
-    let mut z = SixRun {
-        t0: 1.0,
-        t1: s,
-        first: a,
-        second: b,
-    };
-    let twice = 2.0 * s;
-    for k in 2..2 + (n - 2) % 4 {
-        z = six_more(kernel, p, q, n, k, z, twice);
+impl<'a> SixSeries<'a> {
+    // The first three of them.
+    fn first(self) -> ClearSeries<'a>
+        ensures { (result.kernel.now ≡ self.entry.kernel.now) × (result.at ≡ self.entry.at) × (result.n ≡ self.entry.n) }
+    {
+        ClearSeries {
+            kernel: self.kernel,
+            at: self.at,
+            n: self.n,
+        }
     }
-    z
-}
 
-// Six series of n coefficients, three from byte p and three from byte q on, none of them a NaN, without the derivatives: four terms at a time.
-fn six_clear(kernel: &[u8], p: usize, q: usize, n: usize, s: f64) -> Six
-    requires { (2 ≤ n) × SixClear kernel.now p q n }
-    ensures { (result.first ≡ values kernel.now p n s) × (result.second ≡ values kernel.now q n s) }
-{
-    let mut z = six_first(kernel, p, q, n, s);
-    let twice = 2.0 * s;
-    let mut k = 2 + (n - 2) % 4;
-    while k < n {
-        z = six_more(kernel, p, q, n, k, z, twice);
-        z = six_more(kernel, p, q, n, k + 1, z, twice);
-        z = six_more(kernel, p, q, n, k + 2, z, twice);
-        z = six_more(kernel, p, q, n, k + 3, z, twice);
-        k += 4;
+    // The last three.
+    fn second(self) -> ClearSeries<'a>
+        ensures { (result.kernel.now ≡ self.entry.kernel.now) × (result.at ≡ self.entry.at + 24 * self.entry.n) × (result.n ≡ self.entry.n) }
+    {
+        ClearSeries {
+            kernel: self.kernel,
+            at: self.at + 24 * self.n,
+            n: self.n,
+        }
     }
-    let first = z.first;
-    let second = z.second;
-    Six {
-        first: first,
-        second: second,
+
+    // The coefficients of order k, as one term more.
+    fn turned(self, z: SixRun, k: usize, twice: f64) -> SixRun
+        requires { k < self.n }
+        ensures { result ≡ six_turned z (each (λ f. f k) self.entry.kernel.now self.entry.at self.entry.n) (each (λ f. f k) self.entry.kernel.now (self.entry.at + 24 * self.entry.n) self.entry.n) twice }
+    {
+        six_turned(z, self.first().row(k), self.second().row(k), twice)
+    }
+
+    // The first terms: so many that those left are a multiple of four.
+    fn first_terms(self, s: f64) -> SixRun
+        ensures { SixSummed self.entry.kernel.now self.entry.at (self.entry.at + 24 * self.entry.n) self.entry.n s ((self.entry.n - 2) % 4) result }
+    {
+        let mut z = SixRun {
+            t0: 1.0,
+            t1: s,
+            first: self.first().two_terms(s),
+            second: self.second().two_terms(s),
+        };
+        let twice = 2.0 * s;
+        for k in 2..2 + (self.n - 2) % 4 {
+            z = self.turned(z, k, twice);
+        }
+        z
+    }
+
+    // The values at s, without the derivatives: four terms at a time.
+    fn val(self, s: f64) -> Six
+        ensures { (result.first ≡ values self.entry.kernel.now self.entry.at self.entry.n s) × (result.second ≡ values self.entry.kernel.now (self.entry.at + 24 * self.entry.n) self.entry.n s) }
+    {
+        let mut z = self.first_terms(s);
+        let twice = 2.0 * s;
+        for i in 0..(self.n - 2) / 4 {
+            let k = 2 + (self.n - 2) % 4 + 4 * i;
+            z = self.turned(z, k, twice);
+            z = self.turned(z, k + 1, twice);
+            z = self.turned(z, k + 2, twice);
+            z = self.turned(z, k + 3, twice);
+        }
+        Six {
+            first: z.first,
+            second: z.second,
+        }
     }
 }
 
@@ -423,11 +420,9 @@ pub fn record_at(init: f64, intlen: f64, et: f64, n: u64) -> Chosen
     ensures { result ≡ chosen_for init intlen et n }
 {
     let q = quotient(init, intlen, et);
-    let number = bits::record_index(q, n);
-    let reach = bits::reach_of(q, n);
     Chosen {
-        number: number,
-        reach: reach,
+        number: bits::record_index(q, n),
+        reach: bits::reach_of(q, n),
     }
 }
 
@@ -437,11 +432,9 @@ pub fn record_of_few(init: f64, intlen: f64, et: f64, n: u64) -> Chosen
     ensures { result ≡ chosen_for init intlen et n }
 {
     let q = quotient(init, intlen, et);
-    let number = bits::record_of_few(q, n);
-    let reach = bits::reach_of_few(q, n);
     Chosen {
-        number: number,
-        reach: reach,
+        number: bits::record_of_few(q, n),
+        reach: bits::reach_of_few(q, n),
     }
 }
 
@@ -470,7 +463,7 @@ pub fn no_radius(kernel: &[u8], p: usize) -> bool
 // The state of the type 2 record at byte p, with n coefficients in each series, whose RADIUS isn't zero.
 fn state2_any(kernel: &[u8], p: usize, n: usize, et: f64) -> State
     requires { (p + 8 * (2 + 3 * n) ≤ length kernel.now) × (eq (double_at kernel.now (p + 8)) +0 ≡ false) }
-    ensures { Value result ≡ type2_of kernel.now p n et }
+    ensures { Some result ≡ type2_of kernel.now p n et }
 {
     let mid = bits::double_at(kernel, p);
     let radius = bits::double_at(kernel, p + 8);
@@ -481,37 +474,42 @@ fn state2_any(kernel: &[u8], p: usize, n: usize, et: f64) -> State
 // The same where none of the record's doubles is a NaN.
 fn state2_clear(kernel: &[u8], p: usize, n: usize, et: f64) -> State
     requires { (2 ≤ n) × (p + 8 * (2 + 3 * n) ≤ length kernel.now) × (eq (double_at kernel.now (p + 8)) +0 ≡ false) × (all_numbers (every 8 kernel.now p) (2 + 3 * n) ≡ true) }
-    ensures { Value result ≡ type2_of kernel.now p n et }
+    ensures { Some result ≡ type2_of kernel.now p n et }
 {
     let mid = clear_at(kernel, p);
     let radius = clear_at(kernel, p + 8);
-    let v = val_and_deriv_clear(kernel, p + 16, n, (et - mid) / radius);
+    let series = ClearSeries {
+        kernel,
+        at: p + 16,
+        n,
+    };
+    let v = series.val_and_deriv((et - mid) / radius);
     joined(v.value, times(v.slope, 1.0 / radius))
 }
 
 // The same, by the quick way where that is open.
 pub fn state2_at(kernel: &[u8], p: usize, n: usize, et: f64) -> State
     requires { (p + 8 * (2 + 3 * n) ≤ length kernel.now) × (eq (double_at kernel.now (p + 8)) +0 ≡ false) }
-    ensures { Value result ≡ type2_of kernel.now p n et }
+    ensures { Some result ≡ type2_of kernel.now p n et }
 {
     if n < 2 {
         return state2_any(kernel, p, n, et);
     }
-    if two_clear(kernel, p, n) {
+    if all_clear(kernel, p, 2 + 3 * n) {
         return state2_clear(kernel, p, n, et);
     }
     state2_any(kernel, p, n, et)
 }
 
-// The type 2 record at byte p, of SPK or PCK, with n coefficients in each series.
-pub fn type2_at(kernel: &[u8], p: usize, n: usize, et: f64) -> Cheby
+// The type 2 record at byte p, of SPK or PCK, with n coefficients in each series: no state where RADIUS is +0 or -0.
+pub fn type2_at(kernel: &[u8], p: usize, n: usize, et: f64) -> Option<State>
     requires { p + 8 * (2 + 3 * n) ≤ length kernel.now }
     ensures { result ≡ type2_of kernel.now p n et }
 {
     if no_radius(kernel, p) {
-        return Cheby::NoRadius;
+        return None;
     }
-    Cheby::Value(state2_any(kernel, p, n, et))
+    Some(state2_any(kernel, p, n, et))
 }
 
 // The type 3 record at byte p: the velocity has series of its own, after those of the position.
@@ -534,7 +532,12 @@ fn state3_clear(kernel: &[u8], p: usize, n: usize, et: f64) -> State
 {
     let mid = clear_at(kernel, p);
     let radius = clear_at(kernel, p + 8);
-    let r = six_clear(kernel, p + 16, p + 16 + 24 * n, n, (et - mid) / radius);
+    let series = SixSeries {
+        kernel,
+        at: p + 16,
+        n,
+    };
+    let r = series.val((et - mid) / radius);
     joined(r.first, r.second)
 }
 
@@ -546,7 +549,7 @@ pub fn state3_at(kernel: &[u8], p: usize, n: usize, et: f64) -> State
     if n < 2 {
         return type3_at(kernel, p, n, et);
     }
-    if three_clear(kernel, p, n) {
+    if all_clear(kernel, p, 2 + 6 * n) {
         return state3_clear(kernel, p, n, et);
     }
     type3_at(kernel, p, n, et)

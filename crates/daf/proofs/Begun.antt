@@ -1,11 +1,11 @@
 -- What an accepted opening says of the kernel, and exactly when refusals 1 to 8 are given. Assumes nothing.
-use Prim.Native.Nat.{ℕ, suc, ◌≤◌, ◌<◌}
+use Rattle.std.proofs.Common.{Result, Ok, Err}
+use Prim.Native.Nat.{ℕ, ◌≤◌, ◌<◌}
 use mathlib.Core.Path.{◌≡◌, refl, sym, ap, ◌∙◌, subst}
-use mathlib.Core.Bool.{Bool, true, false, true≢false}
+use mathlib.Core.Bool.{false, true≢false}
 use mathlib.Core.List.{List, [], ◌∷◌, map}
 use native.Mathlib.Omega.{arith}
 use borrow.Author.Tests.{ltb-false}
-use lib.Dec.{T}
 use lib.ListN.{length}
 use Rattle.refusal.specs.declared.Refusal.{Refusal}
 use Rattle.refusal.specs.Numbers.{number_of}
@@ -18,27 +18,25 @@ use Rattle.daf.specs.Opening.{cases, daf_of, opening, records_of}
 use Rattle.daf.specs.Steps.{along, Sound}
 use Rattle.daf.specs.declared.Family.{Family}
 use Rattle.daf.specs.declared.Daf.{Daf}
-use Rattle.daf.specs.declared.Opened.{Opened}
-use Rattle.daf.specs.declared.Opened.TheVariants.{Accepted, Refused}
 use Rattle.daf.proofs.SecondTime.{never_endless, walk_accepted}
 use Rattle.daf.proofs.Cursors.{length_places}
 
-one_refusal : (r s : Refusal) → Refused r ≡ Refused s → r ≡ s
+one_refusal : (r s : Refusal) → ◌≡◌ {A = Result Daf Refusal} (Err r) (Err s) → r ≡ s
 one_refusal r s e = cc
 
-no_refusal : (d : Daf) (r : Refusal) → Accepted d ≡ Refused r → ⊥
+no_refusal : (d : Daf) (r : Refusal) → ◌≡◌ {A = Result Daf Refusal} (Ok d) (Err r) → ⊥
 no_refusal d r e = let z : ◌≡◌ {A = ℕ} 0 1 = cc in omega arith
 
 module _ (f : Family) (limit : ℕ) (k : List ℕ) where
   -- **exactly-when**, refusals 1 to 8: case i gives its refusal where it holds and no earlier case does ..
-  pub refused_where : (i : ℕ) → First (cases f limit k) i → opening f limit k ≡ Refused (given (cases f limit k) i)
+  pub refused_where : (i : ℕ) → First (cases f limit k) i → opening f limit k ≡ Err (given (cases f limit k) i)
   unfolding opening
-  refused_where i h = given_where Refused (Accepted (daf_of k (fward k))) (cases f limit k) i h
+  refused_where i h = given_where Err (Ok (daf_of k (fward k))) (cases f limit k) i h
 
   -- .. and only there
-  pub refused_only : (i : ℕ) → i < 8 → opening f limit k ≡ Refused (given (cases f limit k) i) → First (cases f limit k) i
+  pub refused_only : (i : ℕ) → i < 8 → opening f limit k ≡ Err (given (cases f limit k) i) → First (cases f limit k) i
   unfolding opening
-  refused_only i l e = given_only Refused (Accepted (daf_of k (fward k))) one_refusal (no_refusal (daf_of k (fward k))) (cases f limit k) i tt l e
+  refused_only i l e = given_only Err (Ok (daf_of k (fward k))) one_refusal (no_refusal (daf_of k (fward k))) (cases f limit k) i tt l e
 
   -- the cases have the numbers of RULES, "Refusals", in the order of "Opening"
   pub numbered : map (λ (c : Case). number_of c.gives) (cases f limit k) ≡ 1 ∷ 2 ∷ 3 ∷ 4 ∷ 5 ∷ 6 ∷ 7 ∷ 8 ∷ []
@@ -58,10 +56,10 @@ module _ (f : Family) (limit : ℕ) (k : List ℕ) where
   accepted_walk Twice e p t = absurd (true≢false t)
   accepted_walk Endless e p t = absurd (never_endless k (fward k) e)
 
-  pub begun : (d : Daf) → opening f limit k ≡ Accepted d → Begun d
+  pub begun : (d : Daf) → opening f limit k ≡ Ok d → Begun d
   unfolding opening
   begun d e =
-      let a = answered Refused (Accepted (daf_of k (fward k))) one_refusal (no_refusal (daf_of k (fward k))) (cases f limit k) (Accepted d) e (no_refusal d) in
+      let a = answered Err (Ok (daf_of k (fward k))) one_refusal (no_refusal (daf_of k (fward k))) (cases f limit k) (Ok d) e (no_refusal d) in
       let n = a.0.1.1.1.1 in
       let w = accepted_walk (walk k (fward k)) refl n.0 n.1.0 in
       let rs : records_of k ≡ w.0 = ap records_in w.1 in

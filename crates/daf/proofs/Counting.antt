@@ -1,7 +1,8 @@
 -- Laws of the counts of a walk that was accepted, and of the opening after the file record. Assumes nothing.
-use Prim.Native.Nat.{ℕ, zero, suc, ◌+◌, ◌-◌, ◌*◌, ◌/◌, ◌≤◌, ◌<◌}
+use Rattle.std.proofs.Common.{Ok, Err}
+use Prim.Native.Nat.{ℕ, zero, suc, ◌+◌, ◌*◌, ◌/◌, ◌≤◌, ◌<◌}
 use mathlib.Core.Path.{◌≡◌, refl, sym, ap, ◌∙◌, subst}
-use mathlib.Core.Bool.{Bool, true, false, cond, ◌||◌}
+use mathlib.Core.Bool.{Bool, true, false, ◌||◌}
 use mathlib.Core.List.{List, [], ◌∷◌}
 use native.Mathlib.Omega.{arith}
 use borrow.Author.Tests.{lt-ltb, le-ltb, eqb-true, eqb-false}
@@ -13,10 +14,6 @@ use Rattle.refusal.specs.declared.Refusal.TheVariants.{CountOver25, TooManySumma
 use Rattle.daf.specs.Walk.{Walk, Records, PastEnd, Twice, Endless, next_of, count_of, past_end, walk}
 use Rattle.daf.specs.Summaries.{any_over25, total}
 use Rattle.daf.specs.Steps.{walked_of, along, Sound, counted_of, walk_opened}
-use Rattle.daf.specs.declared.Walked.{Walked}
-use Rattle.daf.specs.declared.Walked.TheVariants.{Records as Counted, Refused as Stopped}
-use Rattle.daf.specs.declared.Opened.{Opened}
-use Rattle.daf.specs.declared.Opened.TheVariants.{Accepted, Refused}
 use Rattle.daf.proofs.Walking.{counting, counting_end, counting_past, counting_full, counting_on}
 use Rattle.daf.proofs.SecondTime.{walk_twice, never_endless, walk_accepted}
 
@@ -61,27 +58,27 @@ module _ (k : List ℕ) where
 
   -- ---- what the counts result in
   module _ (first n limit : ℕ) where
-    pub counted_over : any_over25 k (along k first n) ≡ true → counted_of k first n limit ≡ Refused CountOver25
+    pub counted_over : any_over25 k (along k first n) ≡ true → counted_of k first n limit ≡ Err CountOver25
     unfolding counted_of
     counted_over h = rw h
 
-    pub counted_many : any_over25 k (along k first n) ≡ false → limit < total k (along k first n) → counted_of k first n limit ≡ Refused TooManySummaries
+    pub counted_many : any_over25 k (along k first n) ≡ false → limit < total k (along k first n) → counted_of k first n limit ≡ Err TooManySummaries
     unfolding counted_of
     counted_many h t = rw (h, lt-ltb limit (total k (along k first n)) t)
 
     pub counted_fine : (sum : ℕ) → any_over25 k (along k first n) ≡ false → total k (along k first n) ≡ sum → sum ≤ limit
-        → counted_of k first n limit ≡ Accepted (record { first = first; records = n; summaries = sum })
+        → counted_of k first n limit ≡ Ok (record { first = first; records = n; summaries = sum })
     unfolding counted_of
     counted_fine sum h t m = rw (h, t, le-ltb limit sum m)
 
   -- ---- the walk that went before
   module _ (limit first : ℕ) where
     -- it was refused
-    pub stopped : (x : Refusal) (w : Walk) → walk k first ≡ w → walked_of w ≡ Stopped x → walk_opened limit k first ≡ Refused x
+    pub stopped : (x : Refusal) (w : Walk) → walk k first ≡ w → walked_of w ≡ Err x → walk_opened limit k first ≡ Err x
     unfolding walk_opened
     stopped x (Records rs) e h = let z : ◌≡◌ {A = ℕ} 0 1 = cc in absurd (omega arith)
-    stopped x PastEnd e h = rw e (ap Refused (cc))
-    stopped x Twice e h = rw e (ap Refused (cc))
+    stopped x PastEnd e h = rw e (ap Err (cc))
+    stopped x Twice e h = rw e (ap Err (cc))
     stopped x Endless e h = absurd (never_endless k first e)
 
     -- it was accepted
@@ -93,7 +90,7 @@ module _ (k : List ℕ) where
       pub sound : Sound k first n
       pub few : 1024 * n ≤ length k
 
-    bounded : (n left r m : ℕ) → counting k n left r ≡ Counted m → m ≤ n + left
+    bounded : (n left r m : ℕ) → counting k n left r ≡ Ok m → m ≤ n + left
     bounded n zero r m h =
         by_test_lem (eqb r 0) (λ z. let e = counting_end k n 0 r (eqb-true r 0 z) in let q : n ≡ m = cc in omega arith)
         (λ z. by_test_lem (past_end k r) (λ p. let e = counting_past k n 0 r (eqb-false r 0 z) p in let q : ◌≡◌ {A = ℕ} 0 1 = cc in omega arith)
@@ -103,7 +100,7 @@ module _ (k : List ℕ) where
         (λ z. by_test_lem (past_end k r) (λ p. let e = counting_past k n (suc left) r (eqb-false r 0 z) p in let q : ◌≡◌ {A = ℕ} 0 1 = cc in omega arith)
         (λ p. let b = bounded (suc n) left (next_of k r) m (sym (counting_on k n (suc left) left r refl (eqb-false r 0 z) p) ∙ h) in omega arith))
 
-    pub went : (n : ℕ) (w : Walk) → walk k first ≡ w → walked_of w ≡ Counted n → Went n
+    pub went : (n : ℕ) (w : Walk) → walk k first ≡ w → walked_of w ≡ Ok n → Went n
     went n (Records rs) e h =
         let l : length rs ≡ n = cc in
         let a = walk_accepted k first rs e in

@@ -1,7 +1,7 @@
 -- Laws of the summaries one after the other: what is left at a cursor is what is left of the places of the definition. Assumes nothing.
 use Prim.Native.Nat.{ℕ, zero, suc, ◌+◌, ◌-◌, ◌*◌, ◌≤◌, ◌<◌}
 use mathlib.Core.Path.{◌≡◌, refl, sym, ap, ap₂, ◌∙◌, subst}
-use mathlib.Core.Bool.{Bool, true, false, cond, ◌||◌, true≢false}
+use mathlib.Core.Bool.{false, true≢false}
 use mathlib.Core.List.{List, [], ◌∷◌, ◌++◌}
 use native.Mathlib.Omega.{arith}
 use native.Mathlib.Numerals.{add-one}
@@ -9,15 +9,12 @@ use borrow.Author.Tests.{ltb-true, ltb-false, lt-ltb, le-ltb}
 use lib.Dec.{ltb}
 use lib.ListN.{length, length-append}
 use Rattle.bits.proofs.Tests.{by_test_lem, or_left}
-use Rattle.refusal.specs.declared.Refusal.{Refusal}
-use Rattle.refusal.proofs.Exactly.{answer_only, answer_where}
-use Rattle.daf.specs.FileRecord.{fward}
 use Rattle.daf.specs.Walk.{next_of, count_of}
 use Rattle.daf.specs.Summaries.{any_over25, total, place, places_in, places}
 use Rattle.daf.specs.Steps.{along, Sound, cursor, seek_of, next_cursor, remaining, Standing}
 use Rattle.daf.specs.declared.Place.{Place}
 use Rattle.daf.specs.declared.Cursor.{Cursor}
-use Rattle.daf.proofs.Counting.{over_no, over_none, sound_here, sound_next}
+use Rattle.daf.proofs.Counting.{over_no}
 
 -- ---- one turn of `seek`
 module _ (k : List ℕ) where

@@ -7,6 +7,5 @@ pub mod SecondTime
 pub mod Counting
 pub mod Heading
 pub mod Naming
-pub mod Summing
 pub mod Cursors
 pub mod Begun

@@ -1,6 +1,7 @@
 -- The walk that counts its steps refuses exactly where a record is reached a second time: the kernel has no more records than that.
 -- Assumes nothing.
-use Prim.Native.Nat.{ℕ, zero, suc, ◌+◌, ◌*◌, ◌/◌, ◌≤◌, ◌<◌}
+use Rattle.std.proofs.Common.{Result, Ok, Err}
+use Prim.Native.Nat.{ℕ, zero, suc, ◌+◌, ◌/◌, ◌<◌}
 use mathlib.Core.Path.{◌≡◌, refl, sym, ap, ◌∙◌, subst}
 use mathlib.Core.Bool.{Bool, true, false, cond, ◌||◌, true≢false}
 use mathlib.Core.List.{List, [], ◌∷◌}
@@ -8,14 +9,13 @@ use native.Mathlib.Omega.{arith}
 use borrow.Author.Tests.{eqb-true, eqb-false, eq-eqb, ne_eqb}
 use lib.Dec.{eqb}
 use lib.ListN.{length}
-use Rattle.bits.proofs.Tests.{by_test_lem, or_left, or_right, or_none}
+use Rattle.bits.proofs.Tests.{by_test_lem, or_left, or_right}
 use Rattle.refusal.specs.declared.Refusal.TheVariants.{RecordPastEnd, RecordTwice}
 use Rattle.daf.specs.Walk.{Walk, Records, PastEnd, Twice, Endless, next_of, past_end, among, before, walk_from, walk}
 use Rattle.daf.specs.Steps.{walked_of, along, Sound}
-use Rattle.daf.specs.declared.Walked.{Walked}
-use Rattle.daf.specs.declared.Walked.TheVariants.{Records as Counted, Refused as Stopped}
 use Rattle.daf.proofs.Pigeons.{Distinct, Below, distinct_none, distinct_more, below_none, below_more, pigeons}
 use Rattle.daf.proofs.Walking.{stands, counting, counting_end, counting_past, counting_full, counting_on}
+use Rattle.refusal.specs.declared.Refusal.{Refusal}
 
 module _ (k : List ℕ) where
   -- ---- one turn of the walk
@@ -79,7 +79,7 @@ module _ (k : List ℕ) where
   }
 
   -- where r was seen, the walk goes round among those seen for ever, and so the count runs out
-  round : (seen : List ℕ) (r : ℕ) → Seen seen r → among r seen ≡ true → (left n x : ℕ) → among x seen ≡ true → counting k n left x ≡ Stopped RecordTwice
+  round : (seen : List ℕ) (r : ℕ) → Seen seen r → among r seen ≡ true → (left n x : ℕ) → among x seen ≡ true → counting k n left x ≡ Err RecordTwice
   round seen r s a zero n x m = counting_full k n 0 x refl (s.stood x m).0 (s.stood x m).1
   round seen r s a (suc left) n x m =
       counting_on k n (suc left) left x refl (s.stood x m).0 (s.stood x m).1
@@ -89,15 +89,15 @@ module _ (k : List ℕ) where
   -- ---- both walks agree
 
   -- what a walk results in, with n records done
-  lengthened : ℕ → Walk → Walked
-  lengthened n (Records rs) = Counted (n + length rs)
-  lengthened n PastEnd = Stopped RecordPastEnd
-  lengthened n Twice = Stopped RecordTwice
-  lengthened n Endless = Stopped RecordTwice
+  lengthened : ℕ → Walk → Result ℕ Refusal
+  lengthened n (Records rs) = Ok (n + length rs)
+  lengthened n PastEnd = Err RecordPastEnd
+  lengthened n Twice = Err RecordTwice
+  lengthened n Endless = Err RecordTwice
 
   lengthened_before : (n r : ℕ) (w : Walk) → lengthened (suc n) w ≡ lengthened n (before r w)
   unfolding lengthened
-  lengthened_before n r (Records rs) = ap Counted (omega arith)
+  lengthened_before n r (Records rs) = ap Ok (omega arith)
   lengthened_before n r PastEnd = refl
   lengthened_before n r Twice = refl
   lengthened_before n r Endless = refl
@@ -109,7 +109,7 @@ module _ (k : List ℕ) where
   unfolding lengthened
   stop seen r left s f g =
       by_test_lem (eqb r 0)
-      (λ z. f (counting_end k (length seen) left r (eqb-true r 0 z) ∙ ap Counted (omega arith) ∙ sym (ap (lengthened (length seen)) (walk_end seen left r (eqb-true r 0 z)))))
+      (λ z. f (counting_end k (length seen) left r (eqb-true r 0 z) ∙ ap Ok (omega arith) ∙ sym (ap (lengthened (length seen)) (walk_end seen left r (eqb-true r 0 z)))))
       (λ n. by_test_lem (past_end k r)
       (λ p. f (counting_past k (length seen) left r (eqb-false r 0 n) p ∙ sym (ap (lengthened (length seen)) (walk_past seen left r (eqb-false r 0 n) p))))
       (λ p. by_test_lem (among r seen)
@@ -129,7 +129,7 @@ module _ (k : List ℕ) where
 
   lengthened_none : (w : Walk) → lengthened 0 w ≡ walked_of w
   unfolding lengthened
-  lengthened_none (Records rs) = ap Counted (omega arith)
+  lengthened_none (Records rs) = ap Ok (omega arith)
   lengthened_none PastEnd = refl
   lengthened_none Twice = refl
   lengthened_none Endless = refl

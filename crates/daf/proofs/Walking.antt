@@ -1,19 +1,18 @@
 -- Laws of the walk. Assumes nothing.
-use Prim.Native.Nat.{ℕ, zero, suc, ◌+◌, ◌-◌, ◌*◌, ◌/◌, ◌≤◌, ◌<◌}
-use mathlib.Core.Path.{◌≡◌, refl, sym, ap, ◌∙◌, subst}
-use mathlib.Core.Bool.{Bool, true, false, cond, ◌||◌, true≢false}
-use mathlib.Core.List.{List, [], ◌∷◌}
+use Rattle.std.proofs.Common.{Result, Ok, Err}
+use Prim.Native.Nat.{ℕ, zero, suc, ◌+◌, ◌-◌, ◌*◌, ◌≤◌, ◌<◌}
+use mathlib.Core.Path.{◌≡◌, sym, ap, ◌∙◌}
+use mathlib.Core.Bool.{Bool, true, false, cond}
+use mathlib.Core.List.{List}
 use native.Mathlib.Omega.{arith}
 use native.Mathlib.Numerals.{add-one}
-use borrow.Author.Tests.{ltb-true, ltb-false, lt-ltb, le-ltb, eqb-true, eqb-false, eq-eqb, ne_eqb}
+use borrow.Author.Tests.{ltb-false, le-ltb, eq-eqb, ne_eqb}
 use lib.Dec.{eqb, ltb}
 use lib.ListN.{length}
-use Rattle.bits.proofs.Tests.{by_test_lem, or_left, or_right, or_none}
+use Rattle.bits.proofs.Tests.{by_test_lem, or_right, or_none}
 use Rattle.refusal.specs.declared.Refusal.TheVariants.{RecordPastEnd, RecordTwice}
-use Rattle.daf.specs.Walk.{Walk, Records, PastEnd, Twice, Endless, next_of, past_end, among, before, walk_from, walk, records_in}
-use Rattle.daf.specs.Steps.{walked_of, along, Sound}
-use Rattle.daf.specs.declared.Walked.{Walked}
-use Rattle.daf.specs.declared.Walked.TheVariants.{Records as Counted, Refused as Stopped}
+use Rattle.daf.specs.Walk.{next_of, past_end}
+use Rattle.refusal.specs.declared.Refusal.{Refusal}
 
 -- the name record's end is past the kernel's wherever the summary record's is
 pub past_end_lem : (k : List ℕ) (r : ℕ) → ltb (length k) (1024 * (r + 1)) ≡ past_end k r
@@ -30,25 +29,25 @@ stands k r f = ltb-false (length k) (1024 * (r + 1)) (past_end_lem k r ∙ f)
 
 -- ---- the walk as the code runs it: n records are done, and it goes on for at most `left` more
 
-pub counting : List ℕ → ℕ → ℕ → ℕ → Walked
-counting k n zero r = cond (eqb r 0) (Counted n) (cond (past_end k r) (Stopped RecordPastEnd) (Stopped RecordTwice))
-counting k n (suc left) r = cond (eqb r 0) (Counted n) (cond (past_end k r) (Stopped RecordPastEnd) (counting k (suc n) left (next_of k r)))
+pub counting : List ℕ → ℕ → ℕ → ℕ → Result ℕ Refusal
+counting k n zero r = cond (eqb r 0) (Ok n) (cond (past_end k r) (Err RecordPastEnd) (Err RecordTwice))
+counting k n (suc left) r = cond (eqb r 0) (Ok n) (cond (past_end k r) (Err RecordPastEnd) (counting k (suc n) left (next_of k r)))
 
 module _ (k : List ℕ) (n : ℕ) where
   -- record 0 ends it
-  pub counting_end : (left r : ℕ) → r ≡ 0 → counting k n left r ≡ Counted n
+  pub counting_end : (left r : ℕ) → r ≡ 0 → counting k n left r ≡ Ok n
   unfolding counting
-  counting_end zero r e = ap (λ (b : Bool). cond b (Counted n) (cond (past_end k r) (Stopped RecordPastEnd) (Stopped RecordTwice))) (eq-eqb r 0 e)
-  counting_end (suc left) r e = ap (λ (b : Bool). cond b (Counted n) (cond (past_end k r) (Stopped RecordPastEnd) (counting k (suc n) left (next_of k r)))) (eq-eqb r 0 e)
+  counting_end zero r e = ap (λ (b : Bool). cond b (Ok n) (cond (past_end k r) (Err RecordPastEnd) (Err RecordTwice))) (eq-eqb r 0 e)
+  counting_end (suc left) r e = ap (λ (b : Bool). cond b (Ok n) (cond (past_end k r) (Err RecordPastEnd) (counting k (suc n) left (next_of k r)))) (eq-eqb r 0 e)
 
   -- a record ends past the kernel
-  pub counting_past : (left r : ℕ) → (r ≡ 0 → ⊥) → past_end k r ≡ true → counting k n left r ≡ Stopped RecordPastEnd
+  pub counting_past : (left r : ℕ) → (r ≡ 0 → ⊥) → past_end k r ≡ true → counting k n left r ≡ Err RecordPastEnd
   unfolding counting
   counting_past zero r e p = rw (ne_eqb r 0 e, p)
   counting_past (suc left) r e p = rw (ne_eqb r 0 e, p)
 
   -- no more records can be new
-  pub counting_full : (left r : ℕ) → left ≡ 0 → (r ≡ 0 → ⊥) → past_end k r ≡ false → counting k n left r ≡ Stopped RecordTwice
+  pub counting_full : (left r : ℕ) → left ≡ 0 → (r ≡ 0 → ⊥) → past_end k r ≡ false → counting k n left r ≡ Err RecordTwice
   unfolding counting
   counting_full left r z e p = ap (λ (l : ℕ). counting k n l r) z ∙ rw (ne_eqb r 0 e, p)
 

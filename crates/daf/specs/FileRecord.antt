@@ -1,12 +1,11 @@
 -- The file record: record 1 of a DAF, and refusals 1 to 4.
-use Rattle.std.specs.Prelude.{ℕ, zero, suc, ◌+◌, Bool, true, not, ◌&&◌, ◌||◌, List, [], ◌∷◌, eqb, ltb, length, get_or}
+use Rattle.std.specs.Prelude.{ℕ, zero, suc, ◌+◌, Bool, true, not, ◌&&◌, ◌||◌, List, [], ◌∷◌, eqb, ltb, length, get_or, Result, Ok, Err}
 use Rattle.bits.specs.Bytes.{le32}
 use Rattle.refusal.specs.declared.Refusal.TheVariants.{KernelLength, NotDaf, NotLittleEndian, OtherSummaries}
 use Rattle.refusal.specs.Order.{Case, case, first_of}
 use Rattle.daf.specs.declared.Family.{Family}
 use Rattle.daf.specs.declared.Family.TheVariants.{Spk, Pck}
-use Rattle.daf.specs.declared.Head.{Head}
-use Rattle.daf.specs.declared.Head.TheVariants.{First, Refused}
+use Rattle.refusal.specs.declared.Refusal.{Refusal}
 
 -- The first n bytes of a word stand in the kernel from byte `at` on.
 unfoldable pub agree : List ℕ → ℕ → List ℕ → ℕ → Bool
@@ -48,5 +47,5 @@ abbrev pub fward : List ℕ → ℕ
 fward k = le32 k 76
 
 -- What the file record results in.
-unfoldable pub file_record : Family → List ℕ → Head
-file_record f k = first_of (file_cases f k) Refused (First (fward k))
+unfoldable pub file_record : Family → List ℕ → Result ℕ Refusal
+file_record f k = first_of (file_cases f k) Err (Ok (fward k))

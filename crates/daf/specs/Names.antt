@@ -1,5 +1,5 @@
 -- The name at a place of the kernel: 40 bytes less what trails.
-use Rattle.std.specs.Prelude.{ℕ, zero, suc, ◌+◌, Bool, true, false, cond, ◌&&◌, ◌||◌, List, [], eqb, ltb, leb, length, get_or, take, drop}
+use Rattle.std.specs.Prelude.{ℕ, zero, suc, ◌+◌, Bool, true, cond, ◌&&◌, ◌||◌, List, [], eqb, ltb, leb, length, get_or, take, drop}
 
 -- How many of n bytes from `at` on are left where those that pass a test go from the end.
 unfoldable pub kept : (ℕ → Bool) → List ℕ → ℕ → ℕ → ℕ

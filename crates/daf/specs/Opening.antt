@@ -1,14 +1,13 @@
 -- What opening a DAF results in: refusals 1 to 8 in their order, else its first summary record, its records and its summaries.
-use Rattle.std.specs.Prelude.{ℕ, List, [], ◌∷◌, ◌++◌, ltb, length}
+use Rattle.std.specs.Prelude.{ℕ, List, [], ◌∷◌, ◌++◌, ltb, length, Result, Ok, Err}
 use Rattle.refusal.specs.declared.Refusal.TheVariants.{RecordPastEnd, RecordTwice, CountOver25, TooManySummaries}
 use Rattle.refusal.specs.Order.{Case, case, first_of}
 use Rattle.daf.specs.FileRecord.{file_cases, fward}
-use Rattle.daf.specs.Walk.{Walk, walk, records_in, is_past_end, is_twice}
+use Rattle.daf.specs.Walk.{walk, records_in, is_past_end, is_twice}
 use Rattle.daf.specs.Summaries.{any_over25, total}
 use Rattle.daf.specs.declared.Family.{Family}
 use Rattle.daf.specs.declared.Daf.{Daf}
-use Rattle.daf.specs.declared.Opened.{Opened}
-use Rattle.daf.specs.declared.Opened.TheVariants.{Accepted, Refused}
+use Rattle.refusal.specs.declared.Refusal.{Refusal}
 
 -- The records walked from a first one on.
 abbrev pub records_from : List ℕ → ℕ → List ℕ
@@ -32,8 +31,8 @@ abbrev pub cases : Family → ℕ → List ℕ → List Case
 cases f limit k = file_cases f k ++ walk_cases limit k (fward k)
 
 -- The opening.
-unfoldable pub opening : Family → ℕ → List ℕ → Opened
-opening f limit k = first_of (cases f limit k) Refused (Accepted (daf_of k (fward k)))
+unfoldable pub opening : Family → ℕ → List ℕ → Result Daf Refusal
+opening f limit k = first_of (cases f limit k) Err (Ok (daf_of k (fward k)))
 
 -- The records of a kernel, from its file record on.
 abbrev pub records_of : List ℕ → List ℕ

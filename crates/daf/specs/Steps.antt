@@ -1,24 +1,25 @@
 -- How the code reads a walk that was accepted: it counts its records, and follows NEXT again.
-use Rattle.std.specs.Prelude.{◌≡◌, ℕ, zero, suc, ◌+◌, ◌-◌, ◌*◌, ◌≤◌, ◌<◌, false, cond, List, [], ◌∷◌, ◌++◌, ltb, length}
+use Rattle.std.specs.Prelude.{◌≡◌, ℕ, zero, suc, ◌+◌, ◌-◌, ◌*◌, ◌≤◌, ◌<◌, Bool, false, cond, List, [], ◌∷◌, ◌++◌, ltb, length, take, Result, Ok, Err}
 use Rattle.refusal.specs.declared.Refusal.TheVariants.{RecordPastEnd, RecordTwice, CountOver25, TooManySummaries}
 use Rattle.refusal.specs.Order.{first_of, case}
 use Rattle.daf.specs.Walk.{Walk, Records, PastEnd, Twice, Endless, next_of, count_of}
-use Rattle.daf.specs.Summaries.{any_over25, total, places_in, places}
+use Rattle.daf.specs.Summaries.{any_over25, total, places_in, places, spk_summary, pck_summary}
+use Rattle.daf.specs.Names.{kept}
 use Rattle.daf.specs.Opening.{walk_cases, daf_of}
 use Rattle.daf.specs.declared.Daf.{Daf}
+use Rattle.daf.specs.declared.Family.{Family}
+use Rattle.daf.specs.declared.Family.TheVariants.{Spk, Pck}
 use Rattle.daf.specs.declared.Place.{Place}
+use Rattle.daf.specs.declared.Summary.{Summary}
 use Rattle.daf.specs.declared.Cursor.{Cursor}
-use Rattle.daf.specs.declared.Walked.{Walked}
-use Rattle.daf.specs.declared.Walked.TheVariants.{Records as Counted, Refused as Stopped}
-use Rattle.daf.specs.declared.Opened.{Opened}
-use Rattle.daf.specs.declared.Opened.TheVariants.{Accepted, Refused}
+use Rattle.refusal.specs.declared.Refusal.{Refusal}
 
 -- The walk's end as the code gives it: how many records, or the refusal.
-abbrev pub walked_of : Walk → Walked
-walked_of (Records rs) = Counted (length rs)
-walked_of PastEnd = Stopped RecordPastEnd
-walked_of Twice = Stopped RecordTwice
-walked_of Endless = Stopped RecordTwice
+abbrev pub walked_of : Walk → Result ℕ Refusal
+walked_of (Records rs) = Ok (length rs)
+walked_of PastEnd = Err RecordPastEnd
+walked_of Twice = Err RecordTwice
+walked_of Endless = Err RecordTwice
 
 -- The n records from r on, by NEXT.
 unfoldable pub along : List ℕ → ℕ → ℕ → List ℕ
@@ -30,15 +31,24 @@ unfoldable pub Sound : List ℕ → ℕ → ℕ → Type 0
 Sound k r zero = Unit {0}
 Sound k r (suc n) = (1 ≤ r) × (1024 * (r + 1) ≤ length k) × Sound k (next_of k r) n
 
+-- The summary of either family at byte s, whose name is at byte n.
+abbrev pub summary_in : Family → List ℕ → ℕ → ℕ → Summary
+summary_in Spk k s n = spk_summary k s n
+summary_in Pck k s n = pck_summary k s n
+
+-- The bytes of a name without those at their end that pass a test.
+abbrev pub trimmed : (ℕ → Bool) → List ℕ → List ℕ
+trimmed test xs = take (kept test xs 0 (length xs)) xs
+
 -- Refusals 7 and 8 of n records from `first` on, else the opened DAF.
-unfoldable pub counted_of : List ℕ → ℕ → ℕ → ℕ → Opened
+unfoldable pub counted_of : List ℕ → ℕ → ℕ → ℕ → Result Daf Refusal
 counted_of k first n limit =
-    first_of (case (any_over25 k (along k first n)) CountOver25 ∷ case (ltb limit (total k (along k first n))) TooManySummaries ∷ []) Refused
-    (Accepted (record { first = first; records = n; summaries = total k (along k first n) }))
+    first_of (case (any_over25 k (along k first n)) CountOver25 ∷ case (ltb limit (total k (along k first n))) TooManySummaries ∷ []) Err
+    (Ok (record { first = first; records = n; summaries = total k (along k first n) }))
 
 -- Refusals 5 to 8, else the opened DAF.
-unfoldable pub walk_opened : ℕ → List ℕ → ℕ → Opened
-walk_opened limit k first = first_of (walk_cases limit k first) Refused (Accepted (daf_of k first))
+unfoldable pub walk_opened : ℕ → List ℕ → ℕ → Result Daf Refusal
+walk_opened limit k first = first_of (walk_cases limit k first) Err (Ok (daf_of k first))
 
 -- ---- the summaries one after the other
 

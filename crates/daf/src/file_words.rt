@@ -9,15 +9,7 @@ pub fn spells(kernel: &[u8], at: usize, word: &[u8]) -> bool
     requires { at + length word.now ≤ length kernel.now }
     ensures { result ≡ spells kernel.now at word.now }
 {
-    let mut i = word.len();
-    while 0 < i {
-        let k = i - 1;
-        if kernel[at + k] != word[k] {
-            return false;
-        }
-        i = k;
-    }
-    true
+    kernel[at..].starts_with(word)
 }
 
 // ND and NI are the family's.

@@ -18,9 +18,9 @@ mod summaries;
 mod walk_steps;
 
 use file_words::{shaped, spells};
-use names::{is_ascii, without_nuls, without_spaces};
+use names::{is_ascii, is_space, trimmed};
 use refusal::Refusal;
-use summaries::{pck_summary, seek, spk_summary};
+use summaries::{seek, summary};
 use walk_steps::{count_of, next_record, past_end};
 
 // Which kernel a DAF is: it decides what a summary holds.
@@ -55,26 +55,6 @@ impl Daf {
     pub const RECORD: usize = 1024;
 }
 
-// What the file record results in: the first summary record, or a refusal.
-#[derive(Clone, Copy)]
-pub enum Head {
-    First(u32),
-    Refused(Refusal),
-}
-
-// What the walk results in: how many records it goes over, or a refusal.
-#[derive(Clone, Copy)]
-pub enum Walked {
-    Records(usize),
-    Refused(Refusal),
-}
-
-#[derive(Clone, Copy)]
-pub enum Opened {
-    Accepted(Daf),
-    Refused(Refusal),
-}
-
 // Where a summary stands: its record, and its number there.
 #[derive(Clone, Copy)]
 pub struct Place {
@@ -106,70 +86,66 @@ pub struct Cursor {
 }
 
 // The file record: refusals 1 to 4, else FWARD.
-pub fn file_record(kernel: &[u8], family: Family) -> Head
+pub fn file_record(kernel: &[u8], family: Family) -> Result<u32, Refusal>
     ensures { result ≡ file_record family kernel.now }
 {
     let len = kernel.len();
     if len < Daf::RECORD {
-        return Head::Refused(Refusal::KernelLength);
+        return Err(Refusal::KernelLength);
     }
     if 1_073_741_824 < len {
-        return Head::Refused(Refusal::KernelLength);
+        return Err(Refusal::KernelLength);
     }
     if !spells(kernel, 0, b"DAF/") {
-        return Head::Refused(Refusal::NotDaf);
+        return Err(Refusal::NotDaf);
     }
     if !spells(kernel, 88, b"LTL-IEEE") {
-        return Head::Refused(Refusal::NotLittleEndian);
+        return Err(Refusal::NotLittleEndian);
     }
     if !shaped(kernel, family) {
-        return Head::Refused(Refusal::OtherSummaries);
+        return Err(Refusal::OtherSummaries);
     }
-    Head::First(bits::le_u32(kernel, 76))
+    Ok(bits::le_u32(kernel, 76))
 }
 
 // The walk from a first summary record on: refusals 5 and 6, else how many records there are.
-pub fn walk(kernel: &[u8], first: u32) -> Walked
+pub fn walk(kernel: &[u8], first: u32) -> Result<usize, Refusal>
     ensures { result ≡ walked_of (walk kernel.now first) }
 {
     let most = kernel.len() / Daf::RECORD;
     let mut r = first;
-    let mut n: usize = 0;
-    while r != 0 {
-        if past_end(kernel, r) {
-            return Walked::Refused(Refusal::RecordPastEnd);
+    for n in 0..=most {
+        if r == 0 {
+            return Ok(n);
         }
-        // the kernel has no more records than that: one of them came a second time
-        if n == most {
-            return Walked::Refused(Refusal::RecordTwice);
+        if past_end(kernel, r) {
+            return Err(Refusal::RecordPastEnd);
         }
         r = next_record(kernel, r);
-        n += 1;
     }
-    Walked::Records(n)
+    // the kernel has no more records than that: one of them came a second time
+    Err(Refusal::RecordTwice)
 }
 
 // The counts of n records from `first` on: refusals 7 and 8, else the opened DAF.
-fn counted(kernel: &[u8], first: u32, n: usize, limit: usize) -> Opened
+fn counted(kernel: &[u8], first: u32, n: usize, limit: usize) -> Result<Daf, Refusal>
     requires { Sound kernel.now first n × (1024 * n ≤ length kernel.now) }
     ensures { result ≡ counted_of kernel.now first n limit }
 {
     let mut r = first;
-    let mut left = n;
     let mut total: usize = 0;
-    while 0 < left {
+    for _ in 0..n {
         let count = count_of(kernel, r);
         if 25 < count {
-            return Opened::Refused(Refusal::CountOver25);
+            return Err(Refusal::CountOver25);
         }
         total += count as usize;
         r = next_record(kernel, r);
-        left -= 1;
     }
     if limit < total {
-        return Opened::Refused(Refusal::TooManySummaries);
+        return Err(Refusal::TooManySummaries);
     }
-    Opened::Accepted(Daf {
+    Ok(Daf {
         first: first,
         records: n,
         summaries: total,
@@ -177,25 +153,19 @@ fn counted(kernel: &[u8], first: u32, n: usize, limit: usize) -> Opened
 }
 
 // The opening after the file record: refusals 5 to 8.
-fn open_from(kernel: &[u8], first: u32, limit: usize) -> Opened
+fn open_from(kernel: &[u8], first: u32, limit: usize) -> Result<Daf, Refusal>
     ensures { result ≡ walk_opened limit kernel.now first }
 {
-    let walked = walk(kernel, first);
-    match walked {
-        Walked::Refused(refusal) => Opened::Refused(refusal),
-        Walked::Records(n) => counted(kernel, first, n, limit),
-    }
+    let n = walk(kernel, first)?;
+    counted(kernel, first, n, limit)
 }
 
 // The opening of a DAF whose table has `limit` places: refusals 1 to 8 in their order.
-pub fn open(kernel: &[u8], family: Family, limit: usize) -> Opened
+pub fn open(kernel: &[u8], family: Family, limit: usize) -> Result<Daf, Refusal>
     ensures { result ≡ opening family limit kernel.now }
 {
-    let head = file_record(kernel, family);
-    match head {
-        Head::Refused(refusal) => Opened::Refused(refusal),
-        Head::First(first) => open_from(kernel, first, limit),
-    }
+    let first = file_record(kernel, family)?;
+    open_from(kernel, first, limit)
 }
 
 // Summary `index` of record `rec`.
@@ -205,10 +175,7 @@ pub fn summary_at(kernel: &[u8], family: Family, rec: u32, index: usize) -> Summ
 {
     let at = Daf::RECORD * (rec as usize - 1) + 24 + 40 * index;
     let name_at = Daf::RECORD * (rec as usize) + 40 * index;
-    match family {
-        Family::Spk => spk_summary(kernel, at, name_at),
-        Family::Pck => pck_summary(kernel, at, name_at),
-    }
+    summary(kernel, family, at, name_at)
 }
 
 impl Daf {
@@ -224,6 +191,14 @@ impl Daf {
 }
 
 impl Cursor {
+    // Past the last summary.
+    pub const NONE: Cursor = Cursor {
+        rec: 0,
+        index: 0,
+        count: 0,
+        left: 0,
+    };
+
     // The summary after this one.
     pub fn next(self, kernel: &[u8]) -> Cursor
         requires { Standing kernel.now self × (self.index < self.count) }
@@ -251,18 +226,14 @@ pub fn name(kernel: &[u8], at: usize) -> &[u8]
     ensures { result.now ≡ name_of kernel.now at }
 {
     let len = kernel.len();
-    if len < 40 {
+    if len < 40 || len - 40 < at {
         return &kernel[0..0];
     }
-    if len - 40 < at {
+    let bytes = &kernel[at..at + 40];
+    if !is_ascii(bytes) {
         return &kernel[0..0];
     }
-    if !is_ascii(kernel, at, 40) {
-        return &kernel[0..0];
-    }
-    let n = without_spaces(kernel, at, without_nuls(kernel, at, 40));
-    let end = at + n;
-    &kernel[at..end]
+    trimmed(trimmed(bytes, |b| b == 0), is_space)
 }
 
 // A double by its address.

@@ -1,64 +1,31 @@
-// The bytes that a name loses: specs/Names.antt.
-ghost use Rattle.std.specs.Prelude.{◌≡◌, ◌+◌, ◌≤◌, length};
-ghost use Rattle.daf.specs.Names.{ascii, kept, is_nul, is_space};
+// The bytes of a name, and those that it loses: specs/Names.antt.
+ghost use Rattle.std.specs.Prelude.{◌≡◌, ℕ, Bool, length};
+ghost use Rattle.daf.specs.Names.{ascii, is_space};
+ghost use Rattle.daf.specs.Steps.{trimmed};
 
-// How many of n bytes from `at` on are left without trailing NULs.
-pub fn without_nuls(kernel: &[u8], at: usize, n: usize) -> usize
-    requires { at + n ≤ length kernel.now }
-    ensures { result ≡ kept is_nul kernel.now at n }
+// The bytes without those at their end that pass a test.
+pub fn trimmed<F: Fn(u8) -> bool>(mut bytes: &[u8], is_lost: F) -> &[u8]
+    requires { F.IsAlwaysCallable is_lost }
+    ensures { (test : ℕ → Bool) → ((b : ℕ) (r : Bool) → F.post is_lost b r → r ≡ test b) → result.now ≡ trimmed test bytes.now }
 {
-    let mut i = n;
-    while 0 < i {
-        let k = i - 1;
-        if kernel[at + k] != 0 {
-            return i;
-        }
-        i = k;
+    while let [rest @ .., last] = bytes
+        && is_lost(*last)
+    {
+        bytes = rest;
     }
-    0
+    bytes
 }
 
 // Bytes 9 to 13 and 32.
 pub fn is_space(b: u8) -> bool
     ensures { result ≡ is_space b }
 {
-    if b == 32 {
-        return true;
-    }
-    if b < 9 {
-        return false;
-    }
-    b <= 13
+    matches!(b, 9..=13 | 32)
 }
 
-// How many of n bytes from `at` on are left without trailing spaces.
-pub fn without_spaces(kernel: &[u8], at: usize, n: usize) -> usize
-    requires { at + n ≤ length kernel.now }
-    ensures { result ≡ kept is_space kernel.now at n }
+// All of the bytes are below 128.
+pub fn is_ascii(bytes: &[u8]) -> bool
+    ensures { result ≡ ascii bytes.now 0 (length bytes.now) }
 {
-    let mut i = n;
-    while 0 < i {
-        let k = i - 1;
-        if !is_space(kernel[at + k]) {
-            return i;
-        }
-        i = k;
-    }
-    0
-}
-
-// The n bytes from `at` on are below 128.
-pub fn is_ascii(kernel: &[u8], at: usize, n: usize) -> bool
-    requires { at + n ≤ length kernel.now }
-    ensures { result ≡ ascii kernel.now at n }
-{
-    let mut i = n;
-    while 0 < i {
-        let k = i - 1;
-        if 128 <= kernel[at + k] {
-            return false;
-        }
-        i = k;
-    }
-    true
+    bytes.iter().all(|b| *b < 128)
 }

@@ -1,5 +1,6 @@
 -- The table by value, as an opening returned it, is a lent table of 256 places that were empty. So what is proved of a lent one holds of it.
 -- Assumes nothing.
+use Rattle.std.proofs.Common.{Ok, Err}
 use Prim.Native.Nat.{ℕ, ◌≤◌}
 use mathlib.Core.Path.{◌≡◌, refl, sym, ap, ◌∙◌, subst}
 use mathlib.Core.List.{List}
@@ -12,7 +13,6 @@ use Rattle.table.specs.Segments.{empty_segment}
 use Rattle.table.specs.Places.{table_limit, limit_of, empty_places}
 use Rattle.table.specs.declared.Table.{Table}
 use Rattle.opening.specs.declared.Opened.{Opened}
-use Rattle.opening.specs.declared.Found.TheVariants.{Accepted, Refused}
 use Rattle.opening.specs.Opening.{places_of, segment_at, segments_of, table_of, marked_for, open_cases}
 use Rattle.opening.specs.Lent.{found, marked_list, table_after}
 use Rattle.opening.proofs.Planning.{length_map}
@@ -41,9 +41,9 @@ module _ (f : Family) (k : List ℕ) (t : Table) (e : OpenedAs f k t) where
   all : length (places_of k) ≡ t.count
   all = sym (length_map (segment_at f k) (places_of k)) ∙ sym (count_marked f (table_of (segments_of f k))) ∙ ap (λ (x : Table). x.count) (accepted f k t e).1
 
-  at_256 : found f table_limit k ≡ Accepted t.count
+  at_256 : found f table_limit k ≡ Ok t.count
   unfolding found
-  at_256 = none_answer (open_cases f table_limit k) Refused (Accepted (length (places_of k))) (accepted f k t e).0 ∙ ap Accepted all
+  at_256 = none_answer (open_cases f table_limit k) Err (Ok (length (places_of k))) (accepted f k t e).0 ∙ ap Ok all
 
   same : t.segments ≡ table_after f table_limit k empty
   same =
@@ -54,7 +54,7 @@ module _ (f : Family) (k : List ℕ) (t : Table) (e : OpenedAs f k t) where
 
   pub as_lent : LentAs f k empty t.segments t.count
   as_lent = (
-    subst (λ (m : ℕ). found f (limit_of m) k ≡ Accepted t.count) (sym empty_long) at_256,
+    subst (λ (m : ℕ). found f (limit_of m) k ≡ Ok t.count) (sym empty_long) at_256,
     subst (λ (m : ℕ). t.segments ≡ table_after f (limit_of m) k empty) (sym empty_long) same,
   )
 

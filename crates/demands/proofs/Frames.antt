@@ -13,20 +13,18 @@ use Rattle.refusal.specs.Order.{case, first_of}
 use Rattle.daf.specs.declared.Family.TheVariants.{Spk}
 use Rattle.segment.specs.Evaluating.{evaluated}
 use Rattle.segment.specs.declared.Segment.{Segment}
-use Rattle.table.specs.declared.Choice.{Choice}
-use Rattle.table.specs.declared.Choice.TheVariants.{At, Nothing}
-use Rattle.table.specs.Choosing.{last_in, or_else}
+use Rattle.std.proofs.Common.{Option, Some, None}
+use Rattle.table.specs.Choosing.{last_in}
+use Rattle.std.specs.Option.{option_or}
 use Rattle.table.specs.Segments.{seg}
 use Rattle.table.specs.Places.{limit_of}
 use Rattle.chain.specs.Step.{Evaluation, yield_of}
 use Rattle.chain.proofs.Framed.{is_framed}
 use Rattle.spk.specs.declared.Question.{Question}
-use Rattle.spk.specs.declared.Memory.{Memory}
-use Rattle.spk.specs.declared.Memory.TheVariants.{Blank, Kept}
 use Rattle.spk.specs.declared.Asked.{Asked}
 use Rattle.spk.specs.declared.Way.TheVariants.{Forward, Reversed}
 use Rattle.spk.specs.Questions.{is_same, swapped, hits, serves}
-use Rattle.spk.specs.Choosing.{recall, last_reversed, forward_in, remembered_at}
+use Rattle.spk.specs.Choosing.{Memory, recall, last_reversed, forward_in, remembered_at}
 use Rattle.spk.specs.Answers.{refused_answer, same_answer, negated_of}
 use Rattle.spk.specs.Asking.{Found, backward, answer_to, asked_by, asked}
 use Rattle.spk.specs.Turning.{turned_asked}
@@ -77,16 +75,16 @@ module _ (segs segs' : List Segment) (alike : (j : ℕ) → ChosenAlike (seg seg
   last_alike : (q : Question) (r : ℕ) → last_in (hits q) segs r ≡ last_in (hits q) segs' r
   unfolding last_in
   last_alike q zero = refl
-  last_alike q (suc r) = ap₂ (λ (b : Bool) (c : Choice). cond b (At r) c) (hits_alike q (seg segs r) (seg segs' r) (alike r)) (last_alike q r)
+  last_alike q (suc r) = ap₂ (λ (b : Bool) (c : Option ℕ). cond b (Some r) c) (hits_alike q (seg segs r) (seg segs' r) (alike r)) (last_alike q r)
 
   recall_alike : (m : Memory) (q : Question) → recall segs n m q ≡ recall segs' n m q
   unfolding recall
-  recall_alike Blank q = refl
-  recall_alike (Kept i) q = ap (λ (b : Bool). cond (ltb i n && b) (At i) Nothing) (serves_alike q (seg segs i) (seg segs' i) (alike i))
+  recall_alike None q = refl
+  recall_alike (Some i) q = ap (λ (b : Bool). cond (ltb i n && b) (Some i) None) (serves_alike q (seg segs i) (seg segs' i) (alike i))
 
   forward_alike : (m : Memory) (q : Question) → forward_in segs n m q ≡ forward_in segs' n m q
   unfolding forward_in
-  forward_alike m q = ap₂ or_else (recall_alike m q) (last_alike q n)
+  forward_alike m q = ap₂ option_or (recall_alike m q) (last_alike q n)
 
   module _ (limit : ℕ) (ev : Evaluation) (m : Memory) (q : Question) (i : ℕ) (same : seg segs i ≡ seg segs' i) where
     -- past the first three tests, what was found and is remembered
@@ -96,20 +94,20 @@ module _ (segs segs' : List Segment) (alike : (j : ℕ) → ChosenAlike (seg seg
         (first_of (case (ltb limit n) TableUnfit ∷ case (is_nan q.et) EpochNan ∷ []) (λ r. record { answer = refused_answer r; memory = m })
         (record { answer = answer_to f; memory = kept }))
 
-    own_forward : forward_in segs n m q ≡ At i → asked limit ev segs n m q ≡ asked limit ev segs' n m q
+    own_forward : forward_in segs n m q ≡ Some i → asked limit ev segs n m q ≡ asked limit ev segs' n m q
     unfolding asked_by
     own_forward e =
         ap (asked_by limit ev segs n m q) e
         ∙ ap (λ (s : Segment). past (record { way = Forward i; result = yield_of s (ev s i q.et) }) (remembered_at m i s)) same
         ∙ ap (asked_by limit ev segs' n m q) (sym e ∙ forward_alike m q)
 
-    own_back : last_reversed segs n q ≡ At i → backward ev segs n q (last_reversed segs n q) ≡ backward ev segs' n q (last_reversed segs' n q)
+    own_back : last_reversed segs n q ≡ Some i → backward ev segs n q (last_reversed segs n q) ≡ backward ev segs' n q (last_reversed segs' n q)
     own_back e =
         ap (backward ev segs n q) e
         ∙ ap (λ (s : Segment). record { way = Reversed i; result = negated_of (yield_of s (ev s i q.et)) }) same
         ∙ ap (backward ev segs' n q) (sym e ∙ last_alike (swapped q) n)
 
-    own_reversed : forward_in segs n m q ≡ Nothing → last_reversed segs n q ≡ At i → asked limit ev segs n m q ≡ asked limit ev segs' n m q
+    own_reversed : forward_in segs n m q ≡ None → last_reversed segs n q ≡ Some i → asked limit ev segs n m q ≡ asked limit ev segs' n m q
     unfolding asked_by
     own_reversed e f =
         ap (asked_by limit ev segs n m q) e ∙ ap (λ (x : Found). past x m) (own_back f) ∙ ap (asked_by limit ev segs' n m q) (sym e ∙ forward_alike m q)

@@ -12,7 +12,7 @@ use Rattle.segment.specs.Evaluating.{evaluated}
 use Rattle.segment.specs.declared.Segment.{Segment}
 use Rattle.table.specs.Places.{limit_of}
 use Rattle.index.specs.Parts.{has_room, RightIndex}
-use Rattle.spk.specs.declared.Memory.{Memory}
+use Rattle.spk.specs.Choosing.{Memory}
 use Rattle.spk.specs.declared.Answer.{Answer}
 use Rattle.spk.specs.declared.Asked.{Asked}
 use Rattle.spk.specs.Runs.{fresh, replied, of_customer}

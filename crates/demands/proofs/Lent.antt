@@ -19,7 +19,7 @@ use Rattle.daf.specs.declared.Summary.{Summary}
 use Rattle.segment.specs.Evaluating.{evaluated}
 use Rattle.segment.specs.Malformed.{segment_of, judged}
 use Rattle.segment.specs.declared.Segment.{Segment}
-use Rattle.segment.specs.declared.Judged.TheVariants.{Accepted, Malformed}
+use Rattle.std.proofs.Common.{Some, None as Malformed}
 use Rattle.segment.proofs.Opened.{SameData, opened_fits}
 use Rattle.table.specs.Segments.{seg, with_mark}
 use Rattle.table.specs.Places.{limit_of}
@@ -31,7 +31,7 @@ use Rattle.opening.specs.Lent.{filled_with, marked_list}
 use Rattle.opening.proofs.Planning.{length_map}
 use Rattle.opening.proofs.Planned.{few, table_length}
 use Rattle.opening.proofs.Exact.{found_accepted, table_accepted, table_refused}
-use Rattle.spk.specs.declared.Memory.{Memory}
+use Rattle.spk.specs.Choosing.{Memory}
 use Rattle.spk.specs.declared.Answer.{Answer}
 use Rattle.spk.specs.Runs.{Asking, fresh, replied, run, serve, of_customer}
 use Rattle.spk.proofs.NoMemory as memory
@@ -178,9 +178,9 @@ read_data : (f : Family) (n : ℕ) (l : List Segment) (i : ℕ) → SameData (se
 read_data Spk n l i = let a = at_any l n n i in marked_data (seg l i) a.0 _ a.1
 read_data Pck n l i = record { first = refl; last = refl; type = refl; start = refl; end = refl; kind = refl }
 
-judged_fine : (f : Family) (k : List ℕ) (s : Summary) → malformed_summary f k s ≡ false → judged f k s ≡ Accepted (segment_of f k s)
+judged_fine : (f : Family) (k : List ℕ) (s : Summary) → malformed_summary f k s ≡ false → judged f k s ≡ Some (segment_of f k s)
 unfolding judged
-judged_fine f k s e = ap (λ (b : Bool). cond b Malformed (Accepted (segment_of f k s))) e
+judged_fine f k s e = ap (λ (b : Bool). cond b Malformed (Some (segment_of f k s))) e
 
 pub lent_fits : LentFits
 lent_fits f k before segs n left i h et bad =

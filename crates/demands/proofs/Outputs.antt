@@ -3,6 +3,7 @@
 --     answer_line   the line of an answer, and of an orientation, has one newline, its end
 --     ask_marked    the marks of the table that a run's opening leaves are right: so its answers are those with no memory
 --     same_asking   a question is read from its own record alone
+use Rattle.std.proofs.Common.{Ok, Err}
 use Prim.Native.Nat.{ℕ, zero, suc, ◌+◌, ◌*◌, ◌<◌, ◌≤◌}
 use mathlib.Core.Path.{◌≡◌, refl, sym, ap, ap₂, ◌∙◌, subst}
 use mathlib.Core.Bool.{Bool, true, false, cond, not, ◌||◌}
@@ -24,24 +25,22 @@ use Rattle.segment.specs.declared.Segment.{Segment}
 use Rattle.table.specs.Segments.{empty_segment, seg}
 use Rattle.table.specs.Places.{lent_limit, limit_of, empty_places}
 use Rattle.table.specs.Marks.{MarkedRight}
-use Rattle.opening.specs.declared.Found.TheVariants as finding
 use Rattle.opening.specs.Opening.{places_of, open_cases}
 use Rattle.opening.specs.Lent.{found, table_after}
 use Rattle.opening.proofs.Planned.{none_both}
 use Rattle.spk.specs.declared.Answer.{Answer}
 use Rattle.spk.specs.declared.Asked.{Asked}
-use Rattle.spk.specs.declared.Memory.TheVariants.{Blank}
+use Rattle.std.proofs.Common.{Some, None as nothing}
 use Rattle.spk.specs.declared.Question as spk
-use Rattle.spk.specs.declared.Wanted.TheVariants.{In}
 use Rattle.spk.specs.declared.Way.{Way}
 use Rattle.spk.specs.declared.Way.TheVariants.{Same, Forward, Reversed, Chained, Refused}
 use Rattle.spk.specs.Runs.{Asking, fresh, Plain, InFrame}
 use Rattle.spk.proofs.NoMemory.{no_memory_once, no_memory}
 use Rattle.spk.proofs.InKernel.{AgreesAt, bytes_replied}
 use Rattle.spk.proofs.OwnBytes.{touched_replied}
+use Rattle.refusal.specs.declared.Refusal.{Refusal}
 use Rattle.pck.specs.declared.Oriented.{Oriented}
-use Rattle.pck.specs.declared.Outcome.{Outcome}
-use Rattle.pck.specs.declared.Outcome.TheVariants as outcome
+use Rattle.std.specs.Prelude.{Result, Ok, Err, Option, Some, None as no_frame, is_none}
 use Rattle.pck.specs.declared.Question as pck
 use Rattle.pck.specs.Orienting.{oriented}
 use Rattle.lines.specs.Text.{space, refusal_text}
@@ -52,9 +51,7 @@ use Rattle.admission.specs.Order.{too_long, matrix_size, record_cases}
 use Rattle.admission.specs.When.{AllShort}
 use Rattle.ask_text.specs.Records as ask-records
 use Rattle.ask_text.specs.Lines.{same_word, forward_word, reversed_word, chained_word, word_line, named_line, way_line, answer_text}
-use Rattle.ask_text.specs.declared.FrameArgument.{FrameArgument}
-use Rattle.ask_text.specs.declared.FrameArgument.TheVariants.{Number, NoNumber}
-use Rattle.ask_text.specs.FrameText.{frame_named, is_none, frame_number}
+use Rattle.ask_text.specs.FrameText.{frame_named, frame_number}
 use Rattle.ask_text.specs.Text as ask
 use Rattle.orient_text.specs.Records as orient-records
 use Rattle.orient_text.specs.Lines.{turned_text, outcome_text, oriented_text}
@@ -118,8 +115,8 @@ module _ (kernel file : List ℕ) (ok : AskAccepted kernel file) where
   left : LentAs Spk kernel (empty_places lent_limit) (ask.table_in kernel) (ask.count_in kernel)
   unfolding found ask.table_in
   left = (
-    subst (λ (m : ℕ). found Spk (limit_of m) kernel ≡ finding.Accepted (ask.count_in kernel)) (sym (empty_long lent_limit))
-        (answer_where finding.Refused (finding.Accepted (length (places_of kernel))) (open_cases Spk lent_limit kernel) opens),
+    subst (λ (m : ℕ). found Spk (limit_of m) kernel ≡ Ok (ask.count_in kernel)) (sym (empty_long lent_limit))
+        (answer_where Err (Ok (length (places_of kernel))) (open_cases Spk lent_limit kernel) opens),
     subst (λ (m : ℕ). ask.table_in kernel ≡ table_after Spk (limit_of m) kernel (empty_places lent_limit)) (sym (empty_long lent_limit)) refl,
   )
 
@@ -128,7 +125,7 @@ module _ (kernel file : List ℕ) (ok : AskAccepted kernel file) where
 
   answers_alone : (matrix : List ℕ) (frame : ℤ) → ask.answers_text 0 (ask.answers_of kernel file matrix frame) ≡ ask.answers_text 0 (map (alone kernel) (ask.askings file matrix frame))
   answers_alone matrix frame =
-      ap (ask.answers_text 0) (no_memory (ask.table_in kernel) (ask.count_in kernel) ask_marked lent_limit (evaluated Spk kernel) Blank (ask.askings file matrix frame))
+      ap (ask.answers_text 0) (no_memory (ask.table_in kernel) (ask.count_in kernel) ask_marked lent_limit (evaluated Spk kernel) nothing (ask.askings file matrix frame))
 
 pub ask_text_lem : AskText
 unfolding ask.ask_text
@@ -185,7 +182,7 @@ same_question file file' i j same =
 
 same_asking : (file file' matrix : List ℕ) (frame : ℤ) (i j : ℕ) → SameRecord ask-records.question_size file i file' j → ask.asking_at file matrix frame i ≡ ask.asking_at file' matrix frame j
 same_asking file file' matrix frame i j same =
-    ap (λ (q : spk.Question). cond (eqb (length matrix) matrix_size) (InFrame q (In frame) (ask-records.rows_of matrix)) (Plain q)) (same_question file file' i j same)
+    ap (λ (q : spk.Question). cond (eqb (length matrix) matrix_size) (InFrame q (Some frame) (ask-records.rows_of matrix)) (Plain q)) (same_question file file' i j same)
 
 pub ask_interleaving : AskInterleaving
 ask_interleaving kernel file file' matrix frame ok ok' i j h h' same = (
@@ -204,11 +201,11 @@ pub ask_own_bytes : AskOwnBytes
 ask_own_bytes kernel kernel' file matrix frame ok ok' table count i h touched =
     (ask_lines kernel file matrix frame ok).each i h
     ∙ ap (answer_text i)
-    (sym (no_memory_once segs n (ask_marked kernel file ok) lent_limit (evaluated Spk kernel) Blank a)
+    (sym (no_memory_once segs n (ask_marked kernel file ok) lent_limit (evaluated Spk kernel) nothing a)
     ∙ ap (λ (x : Asked). x.answer)
-    (bytes_replied kernel kernel' lent_limit segs n Blank a
-    (touched_replied lent_limit (evaluated Spk kernel) segs n Blank (λ s. SameDoubles kernel kernel' (seg segs s)) (AgreesAt kernel kernel' segs) (agrees kernel kernel' segs) a touched))
-    ∙ no_memory_once segs n (ask_marked kernel file ok) lent_limit (evaluated Spk kernel') Blank a
+    (bytes_replied kernel kernel' lent_limit segs n nothing a
+    (touched_replied lent_limit (evaluated Spk kernel) segs n nothing (λ s. SameDoubles kernel kernel' (seg segs s)) (AgreesAt kernel kernel' segs) (agrees kernel kernel' segs) a touched))
+    ∙ no_memory_once segs n (ask_marked kernel file ok) lent_limit (evaluated Spk kernel') nothing a
     ∙ ap₂ (λ (l : List Segment) (m : ℕ). fresh lent_limit (evaluated Spk kernel') l m a) table count)
     ∙ sym ((ask_lines kernel' file matrix frame ok').each i h)
   where
@@ -239,7 +236,7 @@ ask_output_lem kernel file turned matrix frame = (
   λ long. by_length _ true text (one long),
   λ s given none. by_length _ false text (all_short s) ∙ fitted true (and_both turned _ given (either none)),
   λ s plain. by_length _ false text (all_short s) ∙ fitted false (sym (and_no turned _ plain) ∙ plain),
-  λ s h f e. by_length _ false text (all_short s) ∙ fitted false (sized turned (eq-eqb _ _ h) e) ∙ ap (λ (x : FrameArgument). ask.ask_text kernel file matrix (frame_number x)) e,
+  λ s h f e. by_length _ false text (all_short s) ∙ fitted false (sized turned (eq-eqb _ _ h) e) ∙ ap (λ (x : Option ℤ). ask.ask_text kernel file matrix (frame_number x)) e,
 )
   where
     text : List ℕ
@@ -251,11 +248,11 @@ ask_output_lem kernel file turned matrix frame = (
     fitted : (b : Bool) → ask.unfit turned matrix (frame_named frame) ≡ b → text ≡ cond b [] (ask.ask_text kernel file matrix (frame_number (frame_named frame)))
     fitted b e = ap (λ (u : Bool). cond u [] (ask.ask_text kernel file matrix (frame_number (frame_named frame)))) e
 
-    either : (length matrix ≡ matrix_size → ⊥) ⊎ (frame_named frame ≡ NoNumber) → (not (eqb (length matrix) matrix_size) || is_none (frame_named frame)) ≡ true
-    either = ⊎_elim (λ h. or_left _ (is_none (frame_named frame)) (ap not (ne_eqb _ _ h))) (λ e. or_right (not (eqb (length matrix) matrix_size)) _ (ap (λ (x : FrameArgument). is_none x) e))
+    either : (length matrix ≡ matrix_size → ⊥) ⊎ (frame_named frame ≡ no_frame) → (not (eqb (length matrix) matrix_size) || is_none (frame_named frame)) ≡ true
+    either = ⊎_elim (λ h. or_left _ (is_none (frame_named frame)) (ap not (ne_eqb _ _ h))) (λ e. or_right (not (eqb (length matrix) matrix_size)) _ (ap (λ (x : Option ℤ). is_none x) e))
 
-    sized : {f : ℤ} (t : Bool) → eqb (length matrix) matrix_size ≡ true → frame_named frame ≡ Number f → ask.unfit t matrix (frame_named frame) ≡ false
-    sized true e n = or_none _ _ (ap not e) (ap (λ (x : FrameArgument). is_none x) n)
+    sized : {f : ℤ} (t : Bool) → eqb (length matrix) matrix_size ≡ true → frame_named frame ≡ Some f → ask.unfit t matrix (frame_named frame) ≡ false
+    sized true e n = or_none _ _ (ap not e) (ap (λ (x : Option ℤ). is_none x) n)
     sized false e n = refl
 
     one : (input_limit < length kernel) ⊎ ((input_limit < length file) ⊎ (input_limit < length matrix)) → (ltb input_limit (length matrix) || too_long kernel file) ≡ true
@@ -267,9 +264,9 @@ oriented_line : (i : ℕ) (a : Oriented) → OneLine (oriented_text i a)
 unfolding oriented_text turned_text
 oriented_line i a = by a.outcome
   where
-    by : (o : Outcome) → OneLine (outcome_text i a o)
-    by outcome.Turned = in_front (decimal_plain i) (in_front (field_plain a.frame) (tail_line a.stretched a.angles))
-    by (outcome.Refused r) = numbered_refusal_line i r
+    by : (o : Result (Unit {0}) Refusal) → OneLine (outcome_text i a o)
+    by (Ok _) = in_front (decimal_plain i) (in_front (field_plain a.frame) (tail_line a.stretched a.angles))
+    by (Err r) = numbered_refusal_line i r
 
 orientations : (kernel file : List ℕ) (i n : ℕ) → orient.orientations_from kernel file i n ≡ numbered (λ k. oriented_text k (orient.oriented_at kernel file k)) i n
 unfolding orient.orientations_from

@@ -7,11 +7,12 @@ use native.Mathlib.Omega.{arith}
 use lib.Dec.{ltb}
 use lib.ListN.{length, get_or, length-map}
 use borrow.Author.Tests.{lt-ltb, le-ltb, ltb-true}
+use Rattle.std.specs.Prelude.{Ok, Err}
 use Rattle.refusal.specs.declared.Refusal.TheVariants.{TooManySuppliers}
-use Rattle.tally.specs.declared.Statement.{Statement}
-use Rattle.tally.specs.Usage.{Line, records_in, supplier_at, suppliers_of, count_of, line_of}
+use Rattle.tally.specs.declared.Line.{Line}
+use Rattle.tally.specs.Usage.{records_in, supplier_at, suppliers_of, count_of, line_of}
 use Rattle.tally.specs.Faults.{supplier_limit}
-use Rattle.tally.specs.Statement.{stated, refused_statement, outcome_number, statement_of}
+use Rattle.tally.specs.Statement.{stated, outcome_number, statement_of}
 use Rattle.tally.specs.Merging.{merged}
 use Rattle.tally.proofs.Order.{suppliers_rise, rises_at}
 use Rattle.tally.proofs.Tallying.{get_d_mapped}
@@ -43,13 +44,13 @@ due_at file k h =
 
 module _ (file : List ℕ) (ok : Accepted file) where
   -- an accepted file has no fault, and so its statement
-  stands : statement_of file ≡ stated (lines_in file) (records_in file)
+  stands : statement_of file ≡ Ok (stated (lines_in file) (records_in file))
   stands = stated_where file (stated_only file ok)
 
   pub itemised : Itemised file
   itemised = record {
     answer = stands;
-    text = (stated_text_lem file (ap (λ (s : Statement). s.outcome) stands)).1;
+    text = (stated_text_lem file _ stands).1;
     rising = λ i j h b.
         omega (arith, payee_at file i, payee_at file j, rises_at (suppliers_of file (records_in file)) i j (suppliers_rise file (records_in file)) h (omega (arith, many_lines file)));
     everyone = λ i h.
@@ -72,7 +73,7 @@ pub exactly_when : ExactlyWhen
 exactly_when file = (
   (bad_only file, bad_where file),
   (crowded_only file, crowded_where file),
-  (stated_only file, λ f. ap (λ (s : Statement). outcome_number s.outcome) (stated_where file f)),
+  (stated_only file, λ f. ap outcome_number (stated_where file f)),
   λ n e a b. by_number file (λ _ q. absurd (a (sym e ∙ q))) (λ _ q. absurd (b (sym e ∙ q))) (λ _ q. sym e ∙ q),
 )
 
@@ -112,7 +113,7 @@ fit file ok = faultless_fit file (stated_only file ok)
 pub merge : Merge
 merge a b ok ok' = (
   λ h. text_of (a ++ b) lines total (merge_law a b (fit a ok) (fit b ok') ∙ by false (le-ltb supplier_limit (length lines) h)),
-  λ h. refused_text (a ++ b) TooManySuppliers (ap (λ (s : Statement). s.outcome) (merge_law a b (fit a ok) (fit b ok') ∙ by true (lt-ltb supplier_limit (length lines) h))),
+  λ h. refused_text (a ++ b) TooManySuppliers (merge_law a b (fit a ok) (fit b ok') ∙ by true (lt-ltb supplier_limit (length lines) h)),
 )
   where
     lines : List Line
@@ -122,8 +123,8 @@ merge a b ok ok' = (
     total = records_in a + records_in b
 
     by : (t : Bool) → ltb supplier_limit (length lines) ≡ t
-        → cond (ltb supplier_limit (length lines)) (refused_statement TooManySuppliers) (stated lines total) ≡ cond t (refused_statement TooManySuppliers) (stated lines total)
-    by t q = ap (λ (u : Bool). cond u (refused_statement TooManySuppliers) (stated lines total)) q
+        → cond (ltb supplier_limit (length lines)) (Err TooManySuppliers) (Ok (stated lines total)) ≡ cond t (Err TooManySuppliers) (Ok (stated lines total))
+    by t q = ap (λ (u : Bool). cond u (Err TooManySuppliers) (Ok (stated lines total))) q
 
 pub any_order : AnyOrder
 any_order a b ok whole p =

@@ -26,8 +26,6 @@ use Rattle.spk.specs.Words.{Saying}
 use Rattle.spk.specs.Before.{bare_asked, old_asked, old_asked_in, old_alone}
 use Rattle.spk.proofs.Before.{asked_as_before, in_as_before, alone_as_before}
 use Rattle.spk.proofs.Words as words
-use Rattle.pck.specs.declared.Outcome.{Outcome}
-use Rattle.pck.specs.declared.Outcome.TheVariants as outcome
 use Rattle.pck.proofs.Before as pck-before
 use Rattle.pck.proofs.Words as pck-words
 use Rattle.lines.specs.Text.{space, newline, decimal_text, field_text, yes_text, state_text, tail_text}

@@ -1,6 +1,6 @@
 -- What is proved beyond the contracts, as a ledger keeper reads it. The contracts say what each function returns: `opened` is what an opening
 -- returns, `replied` what a question with a memory returns, `evaluated` what a segment results in on a kernel.
-use Rattle.std.specs.Prelude.{ℕ, ◌<◌, ◌≤◌, ◌≡◌, ◌⊎◌, List, [], ◌∷◌, map, nat_abs, length, Float}
+use Rattle.std.specs.Prelude.{ℕ, ◌<◌, ◌≤◌, ◌≡◌, ◌⊎◌, List, [], ◌∷◌, map, nat_abs, length, Float, Ok, Err}
 use Rattle.refusal.specs.declared.Refusal.{Refusal}
 use Rattle.refusal.specs.declared.Refusal.TheVariants.{TableUnfit}
 use Rattle.daf.specs.Addresses.{double_of_address, whole_doubles}
@@ -8,20 +8,18 @@ use Rattle.frame.specs.Frame.{Matrix}
 use Rattle.daf.specs.declared.Family.{Family}
 use Rattle.daf.specs.declared.Family.TheVariants.{Spk, Pck}
 use Rattle.segment.specs.Evaluating.{evaluated}
-use Rattle.segment.specs.declared.Evaluated.TheVariants.{Refused}
+use Rattle.std.specs.Prelude.{Err}
 use Rattle.table.specs.Segments.{seg}
 use Rattle.segment.specs.declared.Segment.{Segment}
 use Rattle.table.specs.Places.{table_limit, limit_of}
 use Rattle.table.specs.declared.Table.{Table}
 use Rattle.opening.specs.Opening.{accepted_opening, opened}
 use Rattle.opening.specs.Lent.{found, table_after}
-use Rattle.opening.specs.declared.Found.TheVariants.{Accepted}
-use Rattle.opening.specs.declared.Found.TheVariants as finding
-use Rattle.spk.specs.declared.Memory.{Memory}
+use Rattle.spk.specs.Choosing.{Memory}
 use Rattle.spk.specs.declared.Answer.{Answer}
 use Rattle.spk.specs.declared.Asked.{Asked}
 use Rattle.spk.specs.declared.Way.TheVariants as way
-use Rattle.spk.specs.declared.Wanted.{Wanted}
+use Rattle.std.specs.Prelude.{ℤ, Option}
 use Rattle.spk.specs.Asking.{asked}
 use Rattle.spk.specs.Alone.{alone_answer}
 use Rattle.spk.specs.Turning.{asked_in}
@@ -61,7 +59,7 @@ Interleaving =
 -- **opened-fits.** With the kernel unchanged, no segment of an opened table is refused with 14, at any epoch.
 abbrev pub OpenedFits : Type 0
 OpenedFits =
-    (f : Family) (k : List ℕ) (t : Table) → OpenedAs f k t → (i : ℕ) → i < t.count → (et : Float) → evaluated f k (seg t.segments i) i et ≡ Refused TableUnfit → ⊥
+    (f : Family) (k : List ℕ) (t : Table) → OpenedAs f k t → (i : ℕ) → i < t.count → (et : Float) → evaluated f k (seg t.segments i) i et ≡ Err TableUnfit → ⊥
 
 -- .. so no question to an opened SPK is, of every kind, whatever the memory holds ..
 abbrev pub QuestionsFit : Type 0
@@ -78,7 +76,7 @@ OrientationsFit =
 
 -- A lent table as an accepted opening of this kernel left it: it held `before`, n segments were found, and it holds `segs`.
 abbrev pub LentAs : Family → List ℕ → List Segment → List Segment → ℕ → Type 0
-LentAs f k before segs n = (found f (limit_of (length before)) k ≡ Accepted n) × (segs ≡ table_after f (limit_of (length before)) k before)
+LentAs f k before segs n = (found f (limit_of (length before)) k ≡ Ok n) × (segs ≡ table_after f (limit_of (length before)) k before)
 
 -- A question, and the table as it is lent to it.
 abbrev pub Lending : Type 0
@@ -122,7 +120,7 @@ LentInterleaving =
 -- **opened-fits**, of a lent table that nobody else has written since.
 abbrev pub LentFits : Type 0
 LentFits =
-    (f : Family) (k : List ℕ) (before segs : List Segment) (n : ℕ) → LentAs f k before segs n → (i : ℕ) → i < n → (et : Float) → evaluated f k (seg segs i) i et ≡ Refused TableUnfit → ⊥
+    (f : Family) (k : List ℕ) (before segs : List Segment) (n : ℕ) → LentAs f k before segs n → (i : ℕ) → i < n → (et : Float) → evaluated f k (seg segs i) i et ≡ Err TableUnfit → ⊥
 
 abbrev pub LentQuestionsFit : Type 0
 LentQuestionsFit =
@@ -153,7 +151,7 @@ LentOwnEvaluated =
 abbrev pub lent_asked : List ℕ → List Segment → ℕ → Memory → spk.Question → Asked
 lent_asked k segs n m q = asked (limit_of (length segs)) (evaluated Spk k) segs n m q
 
-abbrev pub lent_asked_in : List ℕ → List Segment → ℕ → Memory → spk.Question → Wanted → Matrix → Asked
+abbrev pub lent_asked_in : List ℕ → List Segment → ℕ → Memory → spk.Question → Option ℤ → Matrix → Asked
 lent_asked_in k segs n m q wanted rot = asked_in (limit_of (length segs)) (evaluated Spk k) segs n m q wanted rot
 
 -- An answer is by segment i, forward or reversed.
@@ -169,7 +167,7 @@ LentOwnBytes =
 -- .. in a frame too ..
 abbrev pub LentOwnBytesIn : Type 0
 LentOwnBytesIn =
-    (k k' : List ℕ) (segs segs' : List Segment) → segs' ≡ segs → (n : ℕ) (m : Memory) (q : spk.Question) (wanted : Wanted) (rot : Matrix) (i : ℕ)
+    (k k' : List ℕ) (segs segs' : List Segment) → segs' ≡ segs → (n : ℕ) (m : Memory) (q : spk.Question) (wanted : Option ℤ) (rot : Matrix) (i : ℕ)
     → BySegment i (lent_asked_in k segs n m q wanted rot) → SameDoubles k k' (seg segs i)
     → lent_asked_in k segs n m q wanted rot ≡ lent_asked_in k' segs' n m q wanted rot
 
@@ -188,4 +186,4 @@ OthersStay =
 abbrev pub RefusedStays : Type 0
 RefusedStays =
     (f : Family) (k : List ℕ) (before : List Segment) (r : Refusal)
-    → found f (limit_of (length before)) k ≡ finding.Refused r → table_after f (limit_of (length before)) k before ≡ before
+    → found f (limit_of (length before)) k ≡ Err r → table_after f (limit_of (length before)) k before ≡ before

@@ -11,12 +11,11 @@ use Rattle.segment.specs.Evaluating.{evaluated}
 use Rattle.segment.specs.declared.Segment.{Segment}
 use Rattle.table.specs.Segments.{seg}
 use Rattle.table.specs.Places.{limit_of}
-use Rattle.spk.specs.declared.Memory.{Memory}
+use Rattle.spk.specs.Choosing.{Memory}
 use Rattle.spk.specs.declared.Question.{Question}
 use Rattle.spk.specs.declared.Asked.{Asked}
 use Rattle.spk.specs.declared.Way.TheVariants as way
-use Rattle.spk.specs.declared.Wanted.{Wanted}
-use Rattle.spk.specs.declared.Wanted.TheVariants.{AsItStands, In}
+use Rattle.std.specs.Prelude.{Option, Some, None}
 use Rattle.spk.specs.Questions.{is_same, swapped}
 use Rattle.spk.specs.Alone.{alone_answer}
 use Rattle.spk.specs.Turning.{frame_of, is_refused}
@@ -58,13 +57,13 @@ LentSomeFrame =
 abbrev pub LentStands : Type 0
 LentStands =
     (k : List ℕ) (segs : List Segment) (n : ℕ) (m : Memory) (q : Question) (rot : Matrix) (f : ℤ)
-    → frame_in (lent_asked k segs n m q) ≡ One f → lent_asked_in k segs n m q (In f) rot ≡ lent_asked k segs n m q
+    → frame_in (lent_asked k segs n m q) ≡ One f → lent_asked_in k segs n m q (Some f) rot ≡ lent_asked k segs n m q
 
 -- **21**, exactly when: a frame is wanted and the question itself is answered, but its numbers are in several frames, or in one that is neither the
 -- frame that is wanted, nor 1 with 17 wanted, nor 17 with 1.
 abbrev pub LentOtherFrame : Type 0
 LentOtherFrame =
-    (k : List ℕ) (segs : List Segment) (n : ℕ) (m : Memory) (q : Question) (wanted : Wanted) (rot : Matrix)
+    (k : List ℕ) (segs : List Segment) (n : ℕ) (m : Memory) (q : Question) (wanted : Option ℤ) (rot : Matrix)
     → When21 (limit_of (length segs)) (evaluated Spk k) segs n m q wanted rot ↔ ((lent_asked_in k segs n m q wanted rot).answer.way ≡ way.Refused OtherFrame)
 
 -- Two segments alike in what a choice reads: the pair, the epochs and the mark.
@@ -80,20 +79,20 @@ pub record ChosenAlike (s s' : Segment) : Type 0 where
 abbrev pub LentOwnFrame : Type 0
 LentOwnFrame =
     (k : List ℕ) (segs segs' : List Segment) → length segs ≡ length segs' → ((j : ℕ) → ChosenAlike (seg segs j) (seg segs' j))
-    → (n : ℕ) (m : Memory) (q : Question) (wanted : Wanted) (rot : Matrix) (i : ℕ)
+    → (n : ℕ) (m : Memory) (q : Question) (wanted : Option ℤ) (rot : Matrix) (i : ℕ)
     → BySegment i (lent_asked_in k segs n m q wanted rot) → seg segs i ≡ seg segs' i → lent_asked_in k segs n m q wanted rot ≡ lent_asked_in k segs' n m q wanted rot
 
 -- **Through an index** that an opening left, on any kernel that is lent now, a question in a frame is answered as without the index ..
 abbrev pub SameAskedIn : Type 0
 SameAskedIn =
     (k : List ℕ) (before : List Segment) (spare : List ℕ) (segs : List Segment) (ix : List ℕ) (n : ℕ) → IndexedAs Spk k before spare segs ix n
-    → (now : List ℕ) (m : Memory) (q : Question) (wanted : Wanted) (rot : Matrix)
+    → (now : List ℕ) (m : Memory) (q : Question) (wanted : Option ℤ) (rot : Matrix)
     → asked_in_with (limit_of (length segs)) (evaluated Spk now) segs n ix m q wanted rot ≡ lent_asked_in now segs n m q wanted rot
 
 -- .. so it is 21 exactly when it is 21 without.
 abbrev pub IndexedOtherFrame : Type 0
 IndexedOtherFrame =
     (k : List ℕ) (before : List Segment) (spare : List ℕ) (segs : List Segment) (ix : List ℕ) (n : ℕ) → IndexedAs Spk k before spare segs ix n
-    → (now : List ℕ) (m : Memory) (q : Question) (wanted : Wanted) (rot : Matrix)
+    → (now : List ℕ) (m : Memory) (q : Question) (wanted : Option ℤ) (rot : Matrix)
     → When21 (limit_of (length segs)) (evaluated Spk now) segs n m q wanted rot
     ↔ ((asked_in_with (limit_of (length segs)) (evaluated Spk now) segs n ix m q wanted rot).answer.way ≡ way.Refused OtherFrame)

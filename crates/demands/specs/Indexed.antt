@@ -1,6 +1,6 @@
 -- What is proved of a lent table with its index, as a ledger keeper reads it: the demands of `Demands`, with no memory and no index. The contracts say
 -- what each function returns: `replied_with` is what a question with a memory and an index returns, `oriented_with` what an orientation does.
-use Rattle.std.specs.Prelude.{ℕ, ◌≡◌, List, [], ◌∷◌, map, length}
+use Rattle.std.specs.Prelude.{ℕ, ◌≡◌, List, [], ◌∷◌, map, length, Err}
 use Rattle.refusal.specs.declared.Refusal.TheVariants.{TableUnfit}
 use Rattle.daf.specs.declared.Family.{Family}
 use Rattle.daf.specs.declared.Family.TheVariants.{Spk, Pck}
@@ -8,7 +8,7 @@ use Rattle.segment.specs.Evaluating.{evaluated}
 use Rattle.segment.specs.declared.Segment.{Segment}
 use Rattle.table.specs.Segments.{seg}
 use Rattle.table.specs.Places.{limit_of}
-use Rattle.spk.specs.declared.Memory.{Memory}
+use Rattle.spk.specs.Choosing.{Memory}
 use Rattle.spk.specs.declared.Question as spk
 use Rattle.spk.specs.declared.Answer.{Answer}
 use Rattle.spk.specs.declared.Way.TheVariants as way
@@ -16,7 +16,6 @@ use Rattle.spk.specs.Asking.{asked}
 use Rattle.spk.specs.Runs.{Asking, fresh, of_customer}
 use Rattle.spk.specs.Touched.{TouchedReplied}
 use Rattle.pck.specs.declared.Question as pck
-use Rattle.pck.specs.declared.Outcome.TheVariants as outcome
 use Rattle.pck.specs.Orienting.{oriented}
 use Rattle.indexed.specs.Opening.{index_after}
 use Rattle.indexed.specs.Asking.{asked_with, replied_with}
@@ -93,7 +92,7 @@ IndexedQuestionsFit =
 abbrev pub IndexedOrientationsFit : Type 0
 IndexedOrientationsFit =
     (k : List ℕ) (before : List Segment) (spare : List ℕ) (segs : List Segment) (ix : List ℕ) (n : ℕ) → IndexedAs Pck k before spare segs ix n
-    → (q : pck.Question) → (oriented_with (limit_of (length segs)) k segs n ix q).outcome ≡ outcome.Refused TableUnfit → ⊥
+    → (q : pck.Question) → (oriented_with (limit_of (length segs)) k segs n ix q).outcome ≡ Err TableUnfit → ⊥
 
 -- **Own bytes.** What a question of any kind results in through the index that the opening left, answered or refused, is the same over every other
 -- kernel with the same doubles of the segments that it evaluates, and of no others ..

@@ -1,6 +1,6 @@
 -- What is proved of the programs' output, as a ledger keeper reads it: line by line. The contracts say what the programs print: `ask_output` is every byte of
 -- `ask`, `orient_output` of `orient`, `listing_output` of `listing`. A text is divided into lines at its newlines, and line i is counted from 0 (`Lined`).
-use Rattle.std.specs.Prelude.{ℕ, zero, suc, ◌+◌, ◌*◌, ◌<◌, ◌≤◌, ◌≡◌, Bool, true, false, ◌⊎◌, List, [], map, ℤ, length, get_or}
+use Rattle.std.specs.Prelude.{ℕ, zero, suc, ◌+◌, ◌*◌, ◌<◌, ◌≤◌, ◌≡◌, Bool, true, false, ◌⊎◌, List, [], map, ℤ, length, get_or, Some, None as no_frame}
 use Rattle.refusal.specs.declared.Refusal.TheVariants.{InputTooLong}
 use Rattle.refusal.specs.Order.{Case, First, None, given}
 use Rattle.daf.specs.declared.Family.TheVariants.{Spk}
@@ -9,7 +9,7 @@ use Rattle.table.specs.Places.{lent_limit}
 use Rattle.table.specs.Segments.{seg}
 use Rattle.opening.specs.Opening.{open_cases}
 use Rattle.spk.specs.declared.Answer.{Answer}
-use Rattle.spk.specs.declared.Memory.TheVariants.{Blank}
+use Rattle.std.specs.Prelude.{None as nothing}
 use Rattle.spk.specs.Runs.{Asking, fresh}
 use Rattle.spk.specs.Touched.{TouchedReplied}
 use Rattle.pck.specs.declared.Oriented.{Oriented}
@@ -20,7 +20,6 @@ use Rattle.admission.specs.Order.{matrix_size}
 use Rattle.admission.specs.When.{AllShort}
 use Rattle.ask_text.specs.Records as ask-records
 use Rattle.ask_text.specs.Lines.{answer_text}
-use Rattle.ask_text.specs.declared.FrameArgument.TheVariants.{Number, NoNumber}
 use Rattle.ask_text.specs.FrameText.{frame_named, frame_number}
 use Rattle.ask_text.specs.Text as ask
 use Rattle.orient_text.specs.Records as orient-records
@@ -86,7 +85,7 @@ abbrev pub AskOwnBytes : Type 0
 AskOwnBytes =
     (kernel kernel' file matrix : List ℕ) (frame : ℤ) → AskAccepted kernel file → AskAccepted kernel' file
     → ask.table_in kernel ≡ ask.table_in kernel' → ask.count_in kernel ≡ ask.count_in kernel' → (i : ℕ) → i < ask.questions_in file
-    → TouchedReplied lent_limit (evaluated Spk kernel) (ask.table_in kernel) (ask.count_in kernel) Blank (ask.asking_at file matrix frame i)
+    → TouchedReplied lent_limit (evaluated Spk kernel) (ask.table_in kernel) (ask.count_in kernel) nothing (ask.asking_at file matrix frame i)
     (λ s. SameDoubles kernel kernel' (seg (ask.table_in kernel) s))
     → line_at (ask.ask_text kernel file matrix frame) i ≡ line_at (ask.ask_text kernel' file matrix frame) i
 
@@ -95,9 +94,9 @@ AskOwnBytes =
 abbrev pub AskOutput : Type 0
 AskOutput = (kernel file : List ℕ) (turned : Bool) (matrix frame : List ℕ)
     → ((input_limit < length kernel) ⊎ ((input_limit < length file) ⊎ (input_limit < length matrix)) → ask.ask_output kernel file turned matrix frame ≡ refusal_text InputTooLong)
-    × (AllShort kernel file matrix → turned ≡ true → (length matrix ≡ matrix_size → ⊥) ⊎ (frame_named frame ≡ NoNumber) → ask.ask_output kernel file turned matrix frame ≡ [])
+    × (AllShort kernel file matrix → turned ≡ true → (length matrix ≡ matrix_size → ⊥) ⊎ (frame_named frame ≡ no_frame) → ask.ask_output kernel file turned matrix frame ≡ [])
     × (AllShort kernel file matrix → turned ≡ false → ask.ask_output kernel file turned matrix frame ≡ ask.ask_text kernel file matrix (frame_number (frame_named frame)))
-    × (AllShort kernel file matrix → length matrix ≡ matrix_size → (f : ℤ) → frame_named frame ≡ Number f → ask.ask_output kernel file turned matrix frame ≡ ask.ask_text kernel file matrix f)
+    × (AllShort kernel file matrix → length matrix ≡ matrix_size → (f : ℤ) → frame_named frame ≡ Some f → ask.ask_output kernel file turned matrix frame ≡ ask.ask_text kernel file matrix f)
 
 -- ---- `orient`, which remembers nothing
 

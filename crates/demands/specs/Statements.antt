@@ -1,23 +1,23 @@
 -- What is proved of usage statements, as a ledger keeper reads it. The contracts say what the functions return and write: `statement_of` is what
 -- `tally::add_up` returns, `statement_text` what `statement_text::put_statement` puts into a buffer, `program_text` every byte that `statement` prints.
-use Rattle.std.specs.Prelude.{ℕ, ◌+◌, ◌%◌, ◌≤◌, ◌<◌, ◌≡◌, length, get_or}
+use Rattle.std.specs.Prelude.{ℕ, ◌+◌, ◌%◌, ◌≤◌, ◌<◌, ◌≡◌, Ok, Err, length, get_or}
 use mathlib.Core.List.{List, [], ◌∷◌, ◌++◌, map, Permᴰ}
 use Rattle.refusal.specs.declared.Refusal.{Refusal}
 use Rattle.refusal.specs.declared.Refusal.TheVariants.{InputTooLong, BadRecord, TooManySuppliers}
 use Rattle.lines.specs.Text.{refusal_text}
 use Rattle.lines.specs.Lines.{text_lines}
 use Rattle.streams.specs.Input.{input_limit}
-use Rattle.tally.specs.declared.Outcome.TheVariants.{Refused}
-use Rattle.tally.specs.Usage.{Line, usage_size, records_in, supplier_at, lines_of}
+use Rattle.tally.specs.declared.Line.{Line}
+use Rattle.tally.specs.Usage.{usage_size, records_in, supplier_at, lines_of}
 use Rattle.tally.specs.Faults.{supplier_limit}
-use Rattle.tally.specs.Statement.{stated, refused_statement, outcome_number, statement_of}
+use Rattle.tally.specs.Statement.{stated, outcome_number, statement_of}
 use Rattle.tally.specs.Merging.{sum_of, merged, records_of, naming}
 use Rattle.tally.specs.When.{BadAt, CrowdedAt, Faultless}
 use Rattle.statement_text.specs.Text.{line_text, total_text, stated_text, statement_text, program_text}
 
 -- The number that a file is refused with: 0 where it is not.
 abbrev pub number_for : List ℕ → ℕ
-number_for file = outcome_number (statement_of file).outcome
+number_for file = outcome_number (statement_of file)
 
 -- A file that has a statement.
 abbrev pub Accepted : List ℕ → Type 0
@@ -39,7 +39,7 @@ record_list file = records_of file (records_in file)
 -- **itemised.** Of an accepted file:
 pub record Itemised (file : List ℕ) : Type 0 where
   -- these lines and the number of records are its statement, and every byte that is written of it;
-  pub answer : statement_of file ≡ stated (lines_in file) (records_in file)
+  pub answer : statement_of file ≡ Ok (stated (lines_in file) (records_in file))
   pub text : statement_text file ≡ stated_text (lines_in file) (records_in file)
   -- suppliers stand in rising order, so each stands once;
   pub rising : (i j : ℕ) → i < j → j < length (lines_in file) → payee file i < payee file j
@@ -57,15 +57,15 @@ ItemisedAlways = (file : List ℕ) → Accepted file → Itemised file
 -- and only if the supplier of its first faulty record is the 513th, and accepted if and only if no record is faulty. No other number is given.
 abbrev pub ExactlyWhen : Type 0
 ExactlyWhen = (file : List ℕ)
-    → ((number_for file ≡ 19 → (i : ℕ) × BadAt file i) × ((i : ℕ) → BadAt file i → statement_of file ≡ refused_statement BadRecord))
-    × ((number_for file ≡ 20 → (i : ℕ) × CrowdedAt file i) × ((i : ℕ) → CrowdedAt file i → statement_of file ≡ refused_statement TooManySuppliers))
+    → ((number_for file ≡ 19 → (i : ℕ) × BadAt file i) × ((i : ℕ) → BadAt file i → statement_of file ≡ Err BadRecord))
+    × ((number_for file ≡ 20 → (i : ℕ) × CrowdedAt file i) × ((i : ℕ) → CrowdedAt file i → statement_of file ≡ Err TooManySuppliers))
     × ((Accepted file → Faultless file) × (Faultless file → Accepted file))
     × ((n : ℕ) → number_for file ≡ n → (n ≡ 19 → ⊥) → (n ≡ 20 → ⊥) → n ≡ 0)
 
 -- **no-line.** A refused file gives the line of its refusal and no other; the program refuses a file over its limit before all else.
 abbrev pub NoLine : Type 0
 NoLine = (file : List ℕ)
-    → ((r : Refusal) → (statement_of file).outcome ≡ Refused r → statement_text file ≡ refusal_text r)
+    → ((r : Refusal) → statement_of file ≡ Err r → statement_text file ≡ refusal_text r)
     × (input_limit < length file → program_text file ≡ refusal_text InputTooLong)
     × (length file ≤ input_limit → program_text file ≡ statement_text file)
 

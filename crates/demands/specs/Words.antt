@@ -3,22 +3,21 @@
 -- `lent_alone_oriented` are those of a PCK. The definitions from before an answer had the word have names that begin with `old`, and `bare_asked`,
 -- `bare_answer`, `bare_oriented` leave the word out. Demand 3, own_bytes, two-answers, interleaving and "no index" are statements about whole answers, so
 -- they hold of the word too.
-use Rattle.std.specs.Prelude.{ℕ, ◌≡◌, Bool, true, false, ◌↔◌, List, [], ◌∷◌, ◌++◌, nat_abs, Float, length}
+use Rattle.std.specs.Prelude.{ℕ, ◌≡◌, Bool, true, false, ◌↔◌, List, [], ◌∷◌, ◌++◌, nat_abs, Float, length, Ok, Err}
 use Rattle.refusal.specs.declared.Refusal.{Refusal}
 use Rattle.frame.specs.Frame.{Matrix}
 use Rattle.daf.specs.declared.Family.TheVariants.{Spk}
 use Rattle.segment.specs.declared.Segment.{Segment}
 use Rattle.segment.specs.Evaluating.{stretched_at, evaluated}
 use Rattle.segment.specs.Before.{old_evaluated}
-use Rattle.table.specs.declared.Choice.TheVariants.{At}
+use Rattle.std.specs.Prelude.{ℤ, Option, Some}
 use Rattle.table.specs.Segments.{seg}
 use Rattle.table.specs.Places.{limit_of}
-use Rattle.spk.specs.declared.Memory.{Memory}
+use Rattle.spk.specs.Choosing.{Memory}
 use Rattle.spk.specs.declared.Question.{Question}
 use Rattle.spk.specs.declared.Answer.{Answer}
 use Rattle.spk.specs.declared.Asked.{Asked}
 use Rattle.spk.specs.declared.Way.TheVariants as way
-use Rattle.spk.specs.declared.Wanted.{Wanted}
 use Rattle.spk.specs.Questions.{is_same}
 use Rattle.spk.specs.Answers.{stretched_of}
 use Rattle.spk.specs.Answering.{lent_alone}
@@ -26,7 +25,6 @@ use Rattle.spk.specs.Turning.{is_refused}
 use Rattle.spk.specs.Words.{ChainStretches}
 use Rattle.spk.specs.Before.{bare_answer, bare_asked, old_asked, old_asked_in, old_alone}
 use Rattle.pck.specs.declared.Question as body
-use Rattle.pck.specs.declared.Outcome.TheVariants as outcome
 use Rattle.pck.specs.Orienting.{chosen}
 use Rattle.pck.specs.Answering.{lent_oriented, lent_alone_oriented}
 use Rattle.pck.specs.Before as pck
@@ -70,12 +68,12 @@ LentRefusedWord =
 -- .. in a frame an answer says what it says without, and a refusal no ..
 abbrev pub LentWordIn : Type 0
 LentWordIn =
-    (k : List ℕ) (segs : List Segment) (n : ℕ) (m : Memory) (q : Question) (wanted : Wanted) (rot : Matrix)
+    (k : List ℕ) (segs : List Segment) (n : ℕ) (m : Memory) (q : Question) (wanted : Option ℤ) (rot : Matrix)
     → is_refused (lent_asked_in k segs n m q wanted rot).answer.way ≡ false → word_in (lent_asked_in k segs n m q wanted rot) ≡ word_in (lent_asked k segs n m q)
 
 abbrev pub LentRefusedWordIn : Type 0
 LentRefusedWordIn =
-    (k : List ℕ) (segs : List Segment) (n : ℕ) (m : Memory) (q : Question) (wanted : Wanted) (rot : Matrix) (r : Refusal)
+    (k : List ℕ) (segs : List Segment) (n : ℕ) (m : Memory) (q : Question) (wanted : Option ℤ) (rot : Matrix) (r : Refusal)
     → (lent_asked_in k segs n m q wanted rot).answer.way ≡ way.Refused r → word_in (lent_asked_in k segs n m q wanted rot) ≡ false
 
 -- .. and a segment alone says what it says in an answer, and a refusal no.
@@ -92,23 +90,23 @@ LentRefusedAloneWord =
 -- An orientation says what the segment that is chosen says, one of a segment alone what that says, and a refusal no.
 abbrev pub PckWord : Type 0
 PckWord =
-    (k : List ℕ) (segs : List Segment) (n : ℕ) (q : body.Question) → (lent_oriented k segs n q).outcome ≡ outcome.Turned
-    → (i : ℕ) × (chosen segs n q ≡ At i) × ((lent_oriented k segs n q).stretched ≡ word_at k (seg segs i) q.et)
+    (k : List ℕ) (segs : List Segment) (n : ℕ) (q : body.Question) → (lent_oriented k segs n q).outcome ≡ Ok tt
+    → (i : ℕ) × (chosen segs n q ≡ Some i) × ((lent_oriented k segs n q).stretched ≡ word_at k (seg segs i) q.et)
 
 abbrev pub PckRefusedWord : Type 0
 PckRefusedWord =
     (k : List ℕ) (segs : List Segment) (n : ℕ) (q : body.Question) (r : Refusal)
-    → (lent_oriented k segs n q).outcome ≡ outcome.Refused r → (lent_oriented k segs n q).stretched ≡ false
+    → (lent_oriented k segs n q).outcome ≡ Err r → (lent_oriented k segs n q).stretched ≡ false
 
 abbrev pub PckAloneWord : Type 0
 PckAloneWord =
-    (k : List ℕ) (segs : List Segment) (n i : ℕ) (et : Float) → (lent_alone_oriented k segs n i et).outcome ≡ outcome.Turned
+    (k : List ℕ) (segs : List Segment) (n i : ℕ) (et : Float) → (lent_alone_oriented k segs n i et).outcome ≡ Ok tt
     → (lent_alone_oriented k segs n i et).stretched ≡ word_at k (seg segs i) et
 
 abbrev pub PckRefusedAloneWord : Type 0
 PckRefusedAloneWord =
     (k : List ℕ) (segs : List Segment) (n i : ℕ) (et : Float) (r : Refusal)
-    → (lent_alone_oriented k segs n i et).outcome ≡ outcome.Refused r → (lent_alone_oriented k segs n i et).stretched ≡ false
+    → (lent_alone_oriented k segs n i et).outcome ≡ Err r → (lent_alone_oriented k segs n i et).stretched ≡ false
 
 -- **In the line** of an answer that is no refusal the word stands right before the six numbers, `ask`'s and `orient`'s.
 abbrev pub AskLineWord : Type 0
@@ -118,7 +116,7 @@ AskLineWord =
 
 abbrev pub OrientLineWord : Type 0
 OrientLineWord =
-    (i : ℕ) (a : Oriented) → a.outcome ≡ outcome.Turned
+    (i : ℕ) (a : Oriented) → a.outcome ≡ Ok tt
     → (before : List ℕ) × (oriented_text i a ≡ before ++ (yes_text a.stretched ++ (state_text a.angles ++ (newline ∷ []))))
 
 -- **As before.** Way, state, frame and memory of a question, in whatever frame it is asked, are those of the definitions from before ..
@@ -129,7 +127,7 @@ LentAsBefore =
 
 abbrev pub LentAsBeforeIn : Type 0
 LentAsBeforeIn =
-    (k : List ℕ) (segs : List Segment) (n : ℕ) (m : Memory) (q : Question) (wanted : Wanted) (rot : Matrix)
+    (k : List ℕ) (segs : List Segment) (n : ℕ) (m : Memory) (q : Question) (wanted : Option ℤ) (rot : Matrix)
     → bare_asked (lent_asked_in k segs n m q wanted rot) ≡ old_asked_in (limit_of (length segs)) (old_evaluated Spk k) segs n m q wanted rot
 
 -- .. so are those of a segment alone ..
@@ -153,6 +151,6 @@ PckAloneAsBefore =
 abbrev pub IndexedAsBefore : Type 0
 IndexedAsBefore =
     (k : List ℕ) (before : List Segment) (spare : List ℕ) (segs : List Segment) (ix : List ℕ) (n : ℕ) → IndexedAs Spk k before spare segs ix n
-    → (now : List ℕ) (m : Memory) (q : Question) (wanted : Wanted) (rot : Matrix)
+    → (now : List ℕ) (m : Memory) (q : Question) (wanted : Option ℤ) (rot : Matrix)
     → bare_asked (asked_in_with (limit_of (length segs)) (evaluated Spk now) segs n ix m q wanted rot)
     ≡ old_asked_in (limit_of (length segs)) (old_evaluated Spk now) segs n m q wanted rot

@@ -38,13 +38,3 @@ same_frame f = ap (λ (b : Bool). cond b Stands (cond (is_forth f f) Forth (cond
 -- a matrix transposed twice has its own nine numbers
 pub transpose_twice : (m : Matrix) → transpose_of (transpose_of m) ≡ matrix 3 (cell m)
 transpose_twice m = refl
-
--- what stands with numbers of a frame is equal by its fields
-pub given_eq : (a b : Given) → a.state ≡ b.state → a.frame ≡ b.frame → a.stretched ≡ b.stretched → a ≡ b
-given_eq a b p q r = λ i. record { state = p i; frame = q i; stretched = r i }
-
--- how a state is turned from one frame to another, by the three tests
-pub turn_by : (from to : ℤ) (a b c : Bool) → same_z from to ≡ a → is_forth from to ≡ b → is_forth to from ≡ c → turn_from from to ≡ cond a Stands (cond b Forth (cond c Back Never))
-turn_by from to a b c p q r =
-    ap (λ (x : Bool). cond x Stands (cond (is_forth from to) Forth (cond (is_forth to from) Back Never))) p
-    ∙ ap₂ (λ (x y : Bool). cond a Stands (cond x Forth (cond y Back Never))) q r

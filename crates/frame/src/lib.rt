@@ -5,9 +5,9 @@
 
 ghost use Rattle.std.specs.Prelude.{◌≡◌, ◌||◌};
 ghost use Rattle.frame.specs.State.{zero_state, negated_state, plus_state, minus_state, finite_state};
-ghost use Rattle.bits.specs.Same.{same_z};
+ghost use Rattle.bits.specs.F64.{◌⊕◌, ◌⊗◌, at};
 ghost use Rattle.frame.specs.Frame.{turned_state, transpose_of};
-ghost use Rattle.frame.specs.Framed.{is_forth, turn_from, turn_of, joined_one, joined_with, joined};
+ghost use Rattle.frame.specs.Framed.{turn_of, joined};
 ghost use Rattle.frame.specs.Given.{nothing_given, given_of, negated_given, plus_given, minus_given, turned_given};
 
 // Position and velocity.
@@ -23,6 +23,7 @@ pub struct State {
 
 impl State {
     // Six times +0.
+    #[tactic(auto, unfolding(crate::specs::State::zero_state))]
     pub fn zero() -> Self
         ensures { result ≡ zero_state }
     {
@@ -37,6 +38,7 @@ impl State {
     }
 
     // Each number with the other sign, -0 for +0 too.
+    #[tactic(auto, unfolding(crate::specs::State::negated_state))]
     pub fn negated(self) -> Self
         ensures { result ≡ negated_state self }
     {
@@ -50,32 +52,35 @@ impl State {
         }
     }
 
-    // The sum, number by number.
-    pub fn plus(self, b: State) -> Self
-        ensures { result ≡ plus_state self b }
+    // What f makes of each number and the other state's.
+    fn zip<F: Fn(f64, f64) -> f64>(self, b: State, f: F) -> Self
+        requires { F.IsAlwaysCallable f }
+        ensures { F.post f self.x b.x result.x × F.post f self.y b.y result.y × F.post f self.z b.z result.z × F.post f self.vx b.vx result.vx × F.post f self.vy b.vy result.vy × F.post f self.vz b.vz result.vz }
     {
         Self {
-            x: self.x + b.x,
-            y: self.y + b.y,
-            z: self.z + b.z,
-            vx: self.vx + b.vx,
-            vy: self.vy + b.vy,
-            vz: self.vz + b.vz,
+            x: f(self.x, b.x),
+            y: f(self.y, b.y),
+            z: f(self.z, b.z),
+            vx: f(self.vx, b.vx),
+            vy: f(self.vy, b.vy),
+            vz: f(self.vz, b.vz),
         }
     }
 
+    // The sum, number by number.
+    #[tactic(auto, unfolding(crate::specs::State::plus_state))]
+    pub fn plus(self, b: State) -> Self
+        ensures { result ≡ plus_state self b }
+    {
+        self.zip(b, |x, y| x + y)
+    }
+
     // The difference, number by number.
+    #[tactic(auto, unfolding(crate::specs::State::minus_state))]
     pub fn minus(self, b: State) -> Self
         ensures { result ≡ minus_state self b }
     {
-        Self {
-            x: self.x - b.x,
-            y: self.y - b.y,
-            z: self.z - b.z,
-            vx: self.vx - b.vx,
-            vy: self.vy - b.vy,
-            vz: self.vz - b.vz,
-        }
+        self.zip(b, |x, y| x - y)
     }
 
     // Whether each of the six is finite: a finite number less itself is +0, any other is a NaN, which stays in a sum.
@@ -99,20 +104,25 @@ impl State {
     }
 }
 
-// A state times a 3 by 3 matrix, position and velocity alike: each sum starts with its first product.
+// A row of a matrix times a vector: the sum starts with its first product.
+fn turned(row: [f64; 3], x: f64, y: f64, z: f64) -> f64
+    ensures { result ≡ at row 0 ⊗ x ⊕ at row 1 ⊗ y ⊕ at row 2 ⊗ z }
+{
+    row[0] * x + row[1] * y + row[2] * z
+}
+
+// A state times a 3 by 3 matrix, position and velocity alike.
 pub fn rotate_state_inertial(rot: [[f64; 3]; 3], s: State) -> State
     ensures { result ≡ turned_state rot s }
 {
-    let a = rot[0];
-    let b = rot[1];
-    let c = rot[2];
+    let [a, b, c] = rot;
     State {
-        x: a[0] * s.x + a[1] * s.y + a[2] * s.z,
-        y: b[0] * s.x + b[1] * s.y + b[2] * s.z,
-        z: c[0] * s.x + c[1] * s.y + c[2] * s.z,
-        vx: a[0] * s.vx + a[1] * s.vy + a[2] * s.vz,
-        vy: b[0] * s.vx + b[1] * s.vy + b[2] * s.vz,
-        vz: c[0] * s.vx + c[1] * s.vy + c[2] * s.vz,
+        x: turned(a, s.x, s.y, s.z),
+        y: turned(b, s.x, s.y, s.z),
+        z: turned(c, s.x, s.y, s.z),
+        vx: turned(a, s.vx, s.vy, s.vz),
+        vy: turned(b, s.vx, s.vy, s.vz),
+        vz: turned(c, s.vx, s.vy, s.vz),
     }
 }
 
@@ -151,86 +161,16 @@ pub enum Turn {
     Never,
 }
 
-// Two frames, by their numbers.
-#[derive(Clone, Copy)]
-struct Frames {
-    from: i32,
-    to: i32,
-}
-
-impl Frames {
-    // They are one.
-    fn is_one(self) -> bool
-        ensures { result ≡ same_z self.from self.to }
-    {
-        self.from == self.to
-    }
-
-    // The first is J2000, and the second ECLIPJ2000.
-    fn is_forth(self) -> bool
-        ensures { result ≡ is_forth self.from self.to }
-    {
-        self.from == J2000 && self.to == ECLIPJ2000
-    }
-
-    // The frame that both are, or several.
-    fn joined(self) -> Framed
-        ensures { result ≡ joined_one self.from self.to }
-    {
-        if self.is_one() {
-            Framed::One(self.from)
-        } else {
-            Framed::Mixed
-        }
-    }
-
-    // The same two, the other way round.
-    fn swapped(self) -> Frames
-        ensures { result ≡ record { from = self.to; to = self.from } }
-    {
-        Frames {
-            from: self.to,
-            to: self.from,
-        }
-    }
-
-    // How a state of the first is turned to the second.
-    fn turn(self) -> Turn
-        ensures { result ≡ turn_from self.from self.to }
-    {
-        if self.is_one() {
-            return Turn::Stands;
-        }
-        if self.is_forth() {
-            return Turn::Forth;
-        }
-        if self.swapped().is_forth() {
-            return Turn::Back;
-        }
-        Turn::Never
-    }
-}
-
-// The frame of a segment's numbers with others that may be of none or several.
-fn joined_with(f: i32, b: Framed) -> Framed
-    ensures { result ≡ joined_with f b }
-{
-    match b {
-        Framed::Nothing => Framed::One(f),
-        Framed::One(g) => Frames { from: f, to: g }.joined(),
-        Framed::Mixed => Framed::Mixed,
-    }
-}
-
 impl Framed {
     // The frame of two sums together.
     pub fn joined(self, b: Framed) -> Framed
         ensures { result ≡ joined self b }
     {
-        match self {
-            Framed::Nothing => b,
-            Framed::One(f) => joined_with(f, b),
-            Framed::Mixed => Framed::Mixed,
+        match (self, b) {
+            (Framed::Nothing, _) => b,
+            (_, Framed::Nothing) => self,
+            (Framed::One(f), Framed::One(g)) if f == g => self,
+            _ => Framed::Mixed,
         }
     }
 
@@ -239,9 +179,10 @@ impl Framed {
         ensures { result ≡ turn_of self to }
     {
         match self {
-            Framed::Nothing => Turn::Never,
-            Framed::One(f) => Frames { from: f, to: to }.turn(),
-            Framed::Mixed => Turn::Never,
+            Framed::One(from) if from == to => Turn::Stands,
+            Framed::One(J2000) if to == ECLIPJ2000 => Turn::Forth,
+            Framed::One(ECLIPJ2000) if to == J2000 => Turn::Back,
+            _ => Turn::Never,
         }
     }
 }
@@ -256,21 +197,13 @@ pub struct Given {
     pub stretched: bool,
 }
 
-// One of two, or both.
-fn either(a: bool, b: bool) -> bool
-    ensures { result ≡ (a || b) }
-{
-    a || b
-}
-
 impl Given {
     // Six times +0, which no segment gave: what a sum starts with.
     pub fn nothing() -> Given
         ensures { result ≡ nothing_given }
     {
-        let state = State::zero();
         Given {
-            state: state,
+            state: State::zero(),
             frame: Framed::Nothing,
             stretched: false,
         }
@@ -281,9 +214,9 @@ impl Given {
         ensures { result ≡ given_of state frame stretched }
     {
         Given {
-            state: state,
+            state,
             frame: Framed::One(frame),
-            stretched: stretched,
+            stretched,
         }
     }
 
@@ -291,12 +224,21 @@ impl Given {
     pub fn negated(self) -> Given
         ensures { result ≡ negated_given self }
     {
-        let state = self.state.negated();
-        let frame = self.frame;
         Given {
-            state: state,
-            frame: frame,
+            state: self.state.negated(),
+            frame: self.frame,
             stretched: self.stretched,
+        }
+    }
+
+    // A state made of two: their frames are joined, and it is stretched where one of them is.
+    fn with(self, b: Given, state: State) -> Given
+        ensures { result ≡ record { state = state; frame = joined self.frame b.frame; stretched = self.stretched || b.stretched } }
+    {
+        Given {
+            state,
+            frame: self.frame.joined(b.frame),
+            stretched: self.stretched || b.stretched,
         }
     }
 
@@ -304,32 +246,14 @@ impl Given {
     pub fn plus(self, b: Given) -> Given
         ensures { result ≡ plus_given self b }
     {
-        let state = self.state.plus(b.state);
-        let one = self.frame;
-        let other = b.frame;
-        let frame = one.joined(other);
-        let stretched = either(self.stretched, b.stretched);
-        Given {
-            state: state,
-            frame: frame,
-            stretched: stretched,
-        }
+        self.with(b, self.state.plus(b.state))
     }
 
     // The difference.
     pub fn minus(self, b: Given) -> Given
         ensures { result ≡ minus_given self b }
     {
-        let state = self.state.minus(b.state);
-        let one = self.frame;
-        let other = b.frame;
-        let frame = one.joined(other);
-        let stretched = either(self.stretched, b.stretched);
-        Given {
-            state: state,
-            frame: frame,
-            stretched: stretched,
-        }
+        self.with(b, self.state.minus(b.state))
     }
 
     // The state turned by a matrix to a frame.

@@ -69,12 +69,3 @@ axis_from_kernel s e c x z read p b r t =
     rw t
     (table_same (at z) (doubled (every 8 s e)) (every 48 s b) (every 48 s b) (every 48 s (b + 24)) (every 48 s (b + 24)) c read
     (record { same = λ j h. refl }) (record { same = λ j h. refl }) x p)
-
--- the values and the slopes of the three axes, each in a list, are the six numbers
-pub state_from_axes : (s : List ℕ) (q e c : ℕ) (x : Float) {n : ℕ} {v w : List Float} → 3 ≤ n → Filled (λ j. (axis_at s (q + 8 * j) e c x).value) n v
-    → Filled (λ j. (axis_at s (q + 8 * j) e c x).slope) n w → record { x = at v 0; y = at v 1; z = at v 2; vx = at w 0; vy = at w 1; vz = at w 2 } ≡ hermite_at s q e c x
-unfolding hermite_at
-state_from_axes s q e c x l values slopes =
-    let value = values.holds in
-    let slope = slopes.holds in
-    rw (value 0 (omega arith), value 1 (omega arith), value 2 (omega arith), slope 0 (omega arith), slope 1 (omega arith), slope 2 (omega arith), add-zero q)

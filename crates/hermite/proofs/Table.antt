@@ -58,23 +58,18 @@ pub at_start : {z g h : ℕ → Float} {x : Float} {m : ℕ} {st : Newton} {col 
 at_start {z} {g} {h} {x} {m} {st} {col} {v} l ev q es =
     record { form = newton_next (λ j. difference z g h j 0) z x 0 (no_term z g h x ev) (q 0 l) es; column = record { holds = q } }
 
--- the next column, and the form with its first number
-pub after_turn : {z g h : ℕ → Float} {x : Float} {m : ℕ} (k : ℕ) {st st' : Newton} {col col' : List Float} → 1 ≤ k → k + 1 < m → After z g h x m k st col
-    → ((i : ℕ) → i + (k + 1) < m → at col' i ≡ quotient (at col) z (k + 1) i) → st' ≡ advanced st (at col' 0) (x ⊖ z k) → After z g h x m (k + 1) st' col'
-after_turn zero p l a ec es = absurd (omega arith)
-after_turn {z} {g} {h} {x} {m} (suc j) {st} {st'} {col} {col'} p l a ec es = rw (add-one (suc j)) (go (rw (add-one (suc j)) at ec))
+-- the next column, of order n, and the form with its first number
+pub after_turn : {z g h : ℕ → Float} {x : Float} {m n : ℕ} (k : ℕ) {st st' : Newton} {col col' : List Float} → n ≡ k + 1 → 1 ≤ k → n < m → After z g h x m k st col
+    → ((i : ℕ) → i + n < m → at col' i ≡ quotient (at col) z n i) → st' ≡ advanced st (at col' 0) (x ⊖ z k) → After z g h x m n st' col'
+after_turn zero e p l a ec es = absurd (omega arith)
+after_turn {z} {g} {h} {x} {m} {n} (suc j) {st} {st'} {col} {col'} e p l a ec es =
+    let two : n ≡ suc (suc j) = omega arith in
+    rw two (go (rw two at ec))
   where
     go : ((i : ℕ) → i + suc (suc j) < m → at col' i ≡ quotient (at col) z (suc (suc j)) i) → After z g h x m (suc (suc j)) st' col'
     go ec =
         let column : Column z g h m (suc (suc j)) col' = column_next a.column ec in
         record { form = newton_next (λ j. difference z g h j 0) z x (suc j) a.form (column.holds 0 (omega arith)) es; column = column }
-
--- the same from order k + 1, as the second half of a turn has it
-pub after_second : {z g h : ℕ → Float} {x : Float} {m : ℕ} (k : ℕ) {st st' : Newton} {col col' : List Float} → k + 2 < m → After z g h x m (k + 1) st col
-    → ((i : ℕ) → i + (k + 2) < m → at col' i ≡ quotient (at col) z (k + 2) i) → st' ≡ advanced st (at col' 0) (x ⊖ z (k + 1)) → After z g h x m (k + 2) st' col'
-after_second k l a ec es =
-    let both : k + 1 + 1 ≡ k + 2 = omega arith in
-    rw (← both) (after_turn (k + 1) (omega arith) (omega arith) a (rw (← both) at ec) es)
 
 -- the last column, of one number
 pub at_end : {z g h : ℕ → Float} {x : Float} {m k : ℕ} {st : Newton} {col : List Float} (n : ℕ) → k ≡ n + n - 1 → After z g h x m k st col

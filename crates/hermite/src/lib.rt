@@ -49,12 +49,10 @@ fn nodes_at(kernel: &[u8], e: usize, c: usize, z: &mut [f64; 64])
     requires { (c ≤ 32) × (e + 8 * c ≤ length kernel.now) × (length z.old ≡ 64) }
     ensures { (length z.new ≡ 64) × ((j : ℕ) → j < c + c → at z.new j ≡ doubled (every 8 kernel.now e) j) }
 {
-    let mut i: usize = 0;
-    while i < c {
+    for i in 0..c {
         let epoch = bits::double_at(kernel, e + 8 * i);
         z[2 * i] = epoch;
         z[2 * i + 1] = epoch;
-        i += 1;
     }
 }
 
@@ -76,11 +74,8 @@ fn first_column(kernel: &[u8], q: usize, z: &[f64; 64], c: usize, col: &mut [f64
     requires { (c ≤ 32) × (q + 48 * c ≤ length kernel.now + 16) × (length col.old ≡ 64) }
     ensures { (length col.new ≡ 64) × ((i : ℕ) → i + 1 < c + c → at col.new i ≡ axis_column kernel.now q z.now 1 i) }
 {
-    let m = c + c;
-    let mut i: usize = 0;
-    while i + 1 < m {
+    for i in 0..(c + c).saturating_sub(1) {
         col[i] = first_at(kernel, q, z, i);
-        i += 1;
     }
 }
 
@@ -89,14 +84,14 @@ fn next_column(col: &mut [f64; 64], z: &[f64; 64], m: usize, k: usize)
     requires { (1 ≤ k) × (k ≤ m) × (m ≤ 64) × (length col.old ≡ 64) }
     ensures { (length col.new ≡ 64) × ((i : ℕ) → i + k < m → at col.new i ≡ quotient (at col.old) (at z.now) k i) }
 {
-    let mut i: usize = 0;
-    while i + k < m {
+    for i in 0..m - k {
         col[i] = (col[i + 1] - col[i]) / (z[i + k] - z[i]);
-        i += 1;
     }
 }
 
-// One axis over c doubled nodes z: values at byte q of each state, slopes 24 bytes after. Its columns are made in col, one over the other.
+// One axis over c doubled nodes z: values at byte q of each state, slopes 24 bytes after. Its columns are made in col, one over the other. Where the arrays
+// are made, the compiler knows that they are two.
+#[inline(always)]
 fn axis_at(kernel: &[u8], q: usize, z: &[f64; 64], c: usize, x: f64, col: &mut [f64; 64]) -> Point
     requires { (1 ≤ c) × (c ≤ 32) × (q + 48 * c ≤ length kernel.now + 16) × (length col.old ≡ 64) }
     ensures { (length col.new ≡ 64) × (result ≡ axis_table kernel.now q z.now c x) }
@@ -110,14 +105,12 @@ fn axis_at(kernel: &[u8], q: usize, z: &[f64; 64], c: usize, x: f64, col: &mut [
         dprod: 0.0,
     };
     let mut s = with_term(first, col[0], x - z[0]);
-    let mut k: usize = 1;
     // the orders come in pairs, so that the compiler can tell the columns of an even number of places from those of an odd one
-    while k + 2 < m {
-        next_column(col, z, m, k + 1);
-        s = with_term(s, col[0], x - z[k]);
-        next_column(col, z, m, k + 2);
-        s = with_term(s, col[0], x - z[k + 1]);
-        k += 2;
+    for j in 1..c {
+        next_column(col, z, m, 2 * j);
+        s = with_term(s, col[0], x - z[2 * j - 1]);
+        next_column(col, z, m, 2 * j + 1);
+        s = with_term(s, col[0], x - z[2 * j]);
     }
     Point {
         value: s.val,
@@ -133,21 +126,15 @@ pub fn hermite_at(kernel: &[u8], q: usize, e: usize, c: usize, x: f64) -> State
     let mut z = [0.0; 64];
     nodes_at(kernel, e, c, &mut z);
     let mut col = [0.0; 64];
-    let mut values = [0.0; 3];
-    let mut slopes = [0.0; 3];
-    let mut j: usize = 0;
-    while j < 3 {
-        let p = axis_at(kernel, q + 8 * j, &z, c, x, &mut col);
-        values[j] = p.value;
-        slopes[j] = p.slope;
-        j += 1;
-    }
+    let a = axis_at(kernel, q, &z, c, x, &mut col);
+    let b = axis_at(kernel, q + 8, &z, c, x, &mut col);
+    let d = axis_at(kernel, q + 16, &z, c, x, &mut col);
     State {
-        x: values[0],
-        y: values[1],
-        z: values[2],
-        vx: slopes[0],
-        vy: slopes[1],
-        vz: slopes[2],
+        x: a.value,
+        y: b.value,
+        z: d.value,
+        vx: a.slope,
+        vy: b.slope,
+        vz: d.slope,
     }
 }

@@ -13,7 +13,7 @@ use lib.ListN.{length, get_or, length-set}
 use lib.Seq.{get_or-set_same, get_or-set_other}
 use borrow.Author.Tests.{eq-eqb, ne_eqb}
 use Rattle.segment.specs.declared.Segment.{Segment}
-use Rattle.table.specs.declared.Choice.TheVariants.{At}
+use Rattle.std.proofs.Common.{Some}
 use Rattle.table.specs.Segments.{seg}
 use Rattle.table.specs.Choosing.{last_in}
 use Rattle.table.proofs.Last.{last_none, last_turn}
@@ -105,7 +105,7 @@ module _ (segs : List Segment) (heads : List ℕ) (i : ℕ) (body : ℤ) (own : 
   -- ---- the ascending index
   module _ (n : ℕ) (above : List ℕ) (right : IndexedUp segs n (suc i) heads above) (pos : 0 < m) (fits : i < length above) (among : i < n) where
     up_turn : (h : ℕ) (b : Bool) → in_bucket m h (seg segs i) ≡ b
-        → entry_of (first_in (in_bucket m h) segs i (n - i)) ≡ entry_of (cond b (At i) (first_in (in_bucket m h) segs (suc i) (n - suc i)))
+        → entry_of (first_in (in_bucket m h) segs i (n - i)) ≡ entry_of (cond b (Some i) (first_in (in_bucket m h) segs (suc i) (n - suc i)))
     up_turn h b e =
         ap (λ (x : ℕ). entry_of (first_in (in_bucket m h) segs i x)) (omega arith) ∙ ap entry_of (first_turn (in_bucket m h) segs i (n - suc i) b e)
 

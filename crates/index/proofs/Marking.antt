@@ -3,25 +3,22 @@
 use mathlib.Core.Path.{◌≡◌, refl, sym, ap, ap₂, ◌∙◌}
 use mathlib.Core.Bool.{Bool, true, false, not, ◌&&◌, ◌||◌, cond}
 use mathlib.Core.List.{List}
-use Prim.Native.Nat.{ℕ, zero, suc, ◌-◌, ◌≤◌, ◌<◌}
-use native.Mathlib.Omega.{arith}
+use Prim.Native.Nat.{ℕ, zero, suc, ◌-◌, ◌<◌}
 use lib.Dec.{eqb}
 use lib.IntN.{ℤ}
 use lib.ListN.{length}
 use borrow.Author.Tests.{eq-eqb}
 use Rattle.bits.proofs.Tests.{by_test_lem, and_first, same_z_eq}
 use Rattle.segment.specs.declared.Segment.{Segment}
-use Rattle.table.specs.declared.Choice.{Choice}
-use Rattle.table.specs.declared.Choice.TheVariants.{At}
+use Rattle.std.proofs.Common.{Option, Some}
 use Rattle.table.specs.Segments.{overlaps, seg}
 use Rattle.table.specs.Choosing.{last_in}
 use Rattle.table.specs.Marks.{rivals, others, marked_to}
 use Rattle.table.proofs.Marks.{at_any}
 use Rattle.index.specs.Buckets.{bucket_of, in_bucket, bucket_at}
-use Rattle.index.specs.Visiting.{entry_of, head_of, start_of, next_down, down}
+use Rattle.index.specs.Visiting.{entry_of, head_of, down}
 use Rattle.index.specs.Right.{first_in, all_down, IndexedDown, IndexedUp}
 use Rattle.index.specs.Marking.{others_of}
-use Rattle.index.proofs.Turns.{rest_down_lem, rest_down_end, down_place, down_turn}
 use Rattle.index.proofs.Right.{all_down_turn, not_weaker, visited_down}
 
 -- ---- an index is one of targets: a list of the same targets has the same
@@ -30,7 +27,7 @@ module _ (segs segs' : List Segment) (same : (j : ℕ) → (seg segs' j).target 
   unfolding last_in
   last_same m h zero = refl
   last_same m h (suc k) =
-      ap₂ (λ (z : ℤ) (c : Choice). cond (eqb (bucket_of m z) h) (At k) c) (same k) (last_same m h k)
+      ap₂ (λ (z : ℤ) (c : Option ℕ). cond (eqb (bucket_of m z) h) (Some k) c) (same k) (last_same m h k)
 
   pub indexed_same : (n : ℕ) (last below : List ℕ) → IndexedDown segs n last below → IndexedDown segs' n last below
   indexed_same n last below right =
@@ -47,7 +44,7 @@ module _ (segs segs' : List Segment) (same : (j : ℕ) → (seg segs' j).target 
   unfolding first_in
   first_same m h i zero = refl
   first_same m h i (suc r) =
-      ap₂ (λ (z : ℤ) (c : Choice). cond (eqb (bucket_of m z) h) (At i) c) (same i) (first_same m h (suc i) r)
+      ap₂ (λ (z : ℤ) (c : Option ℕ). cond (eqb (bucket_of m z) h) (Some i) c) (same i) (first_same m h (suc i) r)
 
   pub indexed_up_same : (n i : ℕ) (first above : List ℕ) → IndexedUp segs n i first above → IndexedUp segs' n i first above
   indexed_up_same n i first above right =
@@ -80,14 +77,6 @@ and_false : (a b : Bool) → b ≡ false → (a && b) ≡ false
 and_false true b e = e
 and_false false b e = refl
 
-or_assoc : (a b c : Bool) → (a || (b || c)) ≡ ((a || b) || c)
-or_assoc true b c = refl
-or_assoc false b c = refl
-
-or_none : (a : Bool) → (a || false) ≡ a
-or_none true = refl
-or_none false = refl
-
 module _ (segs : List Segment) (a : Segment) (i : ℕ) where
   -- over all that pass a test that each that overlaps passes
   over_down : (test : Segment → Bool) → ((s : Segment) → overlaps a s ≡ true → test s ≡ true)
@@ -111,23 +100,3 @@ module _ (segs : List Segment) (a : Segment) (i : ℕ) where
         let m = length last in
         ap (others_of segs a i) (visited_down segs n last below right a.target pos)
         ∙ over_down (in_bucket m (bucket_of m a.target)) (λ s y. eq-eqb _ _ (ap (bucket_of m) (sym (same_z_eq _ _ (and_first _ _ (and_first _ _ y)))))) n
-
-    -- ---- the loop, with what was met so far
-    pub met_start : others_of segs a i (down below n (head_of last a.target)) ≡ (false || others_of segs a i (rest_down_lem below n (start_of n last a.target)))
-    met_start = ap (others_of segs a i) (down_place below n n (head_of last a.target) (omega arith))
-
-    pub met_turn : (met : Bool) (k : ℕ) → k < n → let now = met || rivals a i (seg segs k) k in
-        (met || others_of segs a i (rest_down_lem below n k)) ≡ (now || others_of segs a i (rest_down_lem below n (cond now n (next_down n below k))))
-    unfolding others_of
-    met_turn met k l =
-        ap (λ (r : List ℕ). met || others_of segs a i r) (down_turn below n k l)
-        ∙ or_assoc met (rivals a i (seg segs k) k) (others_of segs a i (rest_down_lem below n (next_down n below k)))
-        ∙ go (met || rivals a i (seg segs k) k)
-      where
-        go : (b : Bool) → (b || others_of segs a i (rest_down_lem below n (next_down n below k))) ≡ (b || others_of segs a i (rest_down_lem below n (cond b n (next_down n below k))))
-        go true = refl
-        go false = refl
-
-    pub met_end : (met : Bool) (k : ℕ) → n ≤ k → (met || others_of segs a i (rest_down_lem below n k)) ≡ met
-    unfolding others_of
-    met_end met k l = ap (λ (r : List ℕ). met || others_of segs a i r) (rest_down_end below n k l) ∙ or_none met

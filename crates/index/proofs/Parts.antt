@@ -17,7 +17,7 @@ use Rattle.segment.specs.declared.Segment.{Segment}
 use Rattle.table.specs.Segments.{seg}
 use Rattle.index.specs.Buckets.{bucket_of}
 use Rattle.index.specs.Right.{IndexedDown, IndexedUp, headed, linked}
-use Rattle.index.specs.Parts.{quarter, last_of, below_of, first_of, above_of, room_in, has_room, Roomy, joined_down, joined_up, emptied, joined, filled_index, RightIndex}
+use Rattle.index.specs.Parts.{quarter, last_of, below_of, first_of, above_of, room_in, has_room, Roomy, joined_at, joined_down, joined_up, emptied, joined, filled_index, RightIndex}
 use Rattle.index.proofs.Right.{bucket_lt}
 use Rattle.index.proofs.Filling.{down_none, up_none, down_joined, up_joined}
 
@@ -118,8 +118,8 @@ module _ (ix : List ℕ) (i : ℕ) (body : ℤ) (l : i < quarter ix) where
 
   -- with the part's own beginning written out
   raw : D ≡ R
-  unfolding joined_down
-  raw = ap (λ (k : ℕ). set (set ix (m + i) (get_or ix k 0)) k (i + 1)) {x = h} {y = 0 + h} (omega arith)
+  unfolding joined_down joined_at
+  raw = ap (λ (k : ℕ). set (set ix k (get_or ix (0 + h) 0)) (0 + h) (i + 1)) {x = 0 + m + i} {y = m + i} (omega arith)
 
   pub down_length : length D ≡ length ix
   down_length = ap length raw ∙ join_length 0 m m (omega arith) ix h i hm l
@@ -162,39 +162,33 @@ module _ (ix : List ℕ) (i : ℕ) (body : ℤ) (l : i < quarter ix) where
   U = joined_up ix i body
 
   pub up_length : length U ≡ length ix
-  unfolding joined_up
+  unfolding joined_up joined_at
   up_length = join_length (m + m) (m + m + m) m (omega arith) ix h i hm l
 
   pub up_quarter : quarter U ≡ m
   up_quarter = ap (λ (k : ℕ). k / 4) up_length
 
   pub first_up : first_of U ≡ headed (first_of ix) i body
-  unfolding joined_up first_of
+  unfolding joined_up joined_at first_of
   first_up =
       ap (λ (k : ℕ). take k (drop (k + k) U)) up_quarter
       ∙ join_heads (m + m) (m + m + m) m (omega arith) ix h i hm l
       ∙ ap (λ (k : ℕ). set (take m (drop (m + m) ix)) (bucket_of k body) (i + 1)) (sym (length_first ix))
 
   pub above_up : above_of U ≡ linked (first_of ix) (above_of ix) i body
-  unfolding joined_up first_of above_of
+  unfolding joined_up joined_at first_of above_of
   above_up =
       ap (λ (k : ℕ). take k (drop (k + k + k) U)) up_quarter
       ∙ join_links (m + m) (m + m + m) m (omega arith) ix h i hm l
       ∙ ap (λ (k : ℕ). set (take m (drop (m + m + m) ix)) i (get_or (take m (drop (m + m) ix)) (bucket_of k body) 0)) (sym (length_first ix))
 
   pub last_up : last_of U ≡ last_of ix
-  unfolding joined_up last_of
+  unfolding joined_up joined_at last_of
   last_up = ap (λ (k : ℕ). take k (drop 0 U)) up_quarter ∙ join_before (m + m) (m + m + m) m (omega arith) ix h i hm l 0 (omega arith)
 
   pub below_up : below_of U ≡ below_of ix
-  unfolding joined_up below_of
+  unfolding joined_up joined_at below_of
   below_up = ap (λ (k : ℕ). take k (drop k U)) up_quarter ∙ join_before (m + m) (m + m + m) m (omega arith) ix h i hm l m (omega arith)
-
--- both halves, by what each call says
-pub join_told : (xs ys zs : List ℕ) (i j k : ℕ) (s s' u u' : ℤ) → zs ≡ joined_up ys j u' → ys ≡ joined_down xs i s' → j ≡ k → s' ≡ s → u' ≡ u
-    → zs ≡ joined_up (joined_down xs i s) k u
-join_told xs ys zs i j k s s' u u' up down e f g =
-    up ∙ ap₂ (λ (l : List ℕ) (z : ℤ). joined_up l j z) (down ∙ ap (joined_down xs i) f) g ∙ ap (λ (x : ℕ). joined_up (joined_down xs i s) x u) e
 
 -- ---- the buckets are emptied
 module _ (ix : List ℕ) where

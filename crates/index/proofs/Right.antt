@@ -11,8 +11,7 @@ use lib.ListN.{length}
 use borrow.Author.Tests.{eq-eqb, eqb-true}
 use Rattle.bits.proofs.Tests.{by_test_lem}
 use Rattle.segment.specs.declared.Segment.{Segment}
-use Rattle.table.specs.declared.Choice.{Choice}
-use Rattle.table.specs.declared.Choice.TheVariants.{At, Nothing}
+use Rattle.std.proofs.Common.{Option, Some, None}
 use Rattle.table.specs.Segments.{seg}
 use Rattle.table.specs.Choosing.{last_in}
 use Rattle.table.proofs.Last.{Chosen, last_chosen, last_turn}
@@ -38,14 +37,14 @@ module _ (test : Segment → Bool) (segs : List Segment) where
   unfolding all_up
   all_up_turn i r b h = ap (λ (t : Bool). cond t (i ∷ all_up test segs (suc i) r) (all_up test segs (suc i) r)) h
 
-  pub first_turn : (i r : ℕ) (b : Bool) → test (seg segs i) ≡ b → first_in test segs i (suc r) ≡ cond b (At i) (first_in test segs (suc i) r)
+  pub first_turn : (i r : ℕ) (b : Bool) → test (seg segs i) ≡ b → first_in test segs i (suc r) ≡ cond b (Some i) (first_in test segs (suc i) r)
   unfolding first_in
-  first_turn i r b h = ap (λ (t : Bool). cond t (At i) (first_in test segs (suc i) r)) h
+  first_turn i r b h = ap (λ (t : Bool). cond t (Some i) (first_in test segs (suc i) r)) h
 
   -- an entry of the last of k names none past them
-  last_entry : (k : ℕ) (c : Choice) → Chosen test segs k c → entry_of c ≤ k
-  last_entry k (At i) h = h.0
-  last_entry k Nothing h = omega arith
+  last_entry : (k : ℕ) (c : Option ℕ) → Chosen test segs k c → entry_of c ≤ k
+  last_entry k (Some i) h = h.0
+  last_entry k None h = omega arith
 
   pub last_entry_le : (k : ℕ) → entry_of (last_in test segs k) ≤ k
   last_entry_le k = last_entry k (last_in test segs k) (last_chosen test segs k)
@@ -77,7 +76,7 @@ module _ (test weaker : Segment → Bool) (segs : List Segment) (implies : (s : 
       (λ h.
       ap (chosen_of test segs) (all_down_turn weaker segs k true h)
       ∙ chosen_turn test segs k (all_down weaker segs k) (test (seg segs k)) refl
-      ∙ ap (λ (c : Choice). cond (test (seg segs k)) (At k) c) (chosen_down k))
+      ∙ ap (λ (c : Option ℕ). cond (test (seg segs k)) (Some k) c) (chosen_down k))
       (λ h.
       ap (chosen_of test segs) (all_down_turn weaker segs k false h)
       ∙ chosen_down k

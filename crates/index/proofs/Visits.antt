@@ -1,39 +1,17 @@
 -- Laws of a walk through any index: one for each way through the loop that makes it. Assumes nothing.
-use mathlib.Core.Path.{◌≡◌, refl, sym, ap, ap₂, ◌∙◌}
+use mathlib.Core.Path.{◌≡◌, refl, sym, ap, ◌∙◌}
 use mathlib.Core.Logic.{⊎_elim}
-use mathlib.Core.Bool.{Bool, true, false, cond, ◌&&◌}
+use mathlib.Core.Bool.{Bool, cond}
 use mathlib.Core.List.{List, [], ◌∷◌}
 use Prim.Native.Nat.{ℕ, zero, suc, ◌+◌, ◌-◌, ◌≤◌, ◌<◌}
 use native.Mathlib.Nat.{not-suc-le-zero, le_of_suc-le-suc, eq-or-lt_of_le}
 use native.Mathlib.Omega.{arith}
-use lib.Dec.{ltb, leb}
 use lib.ListN.{get_or}
-use borrow.Author.Tests.{eq-eqb, ne_eqb, lt-ltb, le-ltb, le-leb, lt-leb}
+use borrow.Author.Tests.{eq-eqb, ne_eqb}
 use Rattle.segment.specs.declared.Segment.{Segment}
-use Rattle.table.specs.declared.Choice.TheVariants.{At, Nothing}
+use Rattle.std.proofs.Common.{Some, None}
 use Rattle.table.specs.Segments.{seg}
-use Rattle.index.specs.Visiting.{place_in, down, up, chosen_of}
-
--- ---- the number that an entry names
-module _ (n a b e : ℕ) where
-  place_by : Bool → Bool → ℕ
-  place_by x y = cond (x && y) (e - 1) n
-
-  pub place_low : e ≤ a → place_in n a b e ≡ n
-  unfolding place_in place_by
-  place_low h = ap (λ (x : Bool). place_by x (leb e b)) (le-ltb a e h)
-
-  pub place_high : b < e → place_in n a b e ≡ n
-  unfolding place_in place_by
-  place_high h = ap (place_by (ltb a e)) (lt-leb e b h) ∙ none (ltb a e)
-    where
-      none : (x : Bool) → cond (x && false) (e - 1) n ≡ n
-      none true = refl
-      none false = refl
-
-  pub place_at : a < e → e ≤ b → place_in n a b e ≡ e - 1
-  unfolding place_in place_by
-  place_at h k = ap₂ place_by (lt-ltb a e h) (le-leb e b k)
+use Rattle.index.specs.Visiting.{down, up, chosen_of}
 
 module _ (links : List ℕ) where
   -- ---- the walk down
@@ -112,10 +90,10 @@ module _ (links : List ℕ) where
 
 -- ---- the first that passes
 module _ (test : Segment → Bool) (segs : List Segment) where
-  pub chosen_none : chosen_of test segs [] ≡ Nothing
+  pub chosen_none : chosen_of test segs [] ≡ None
   unfolding chosen_of
   chosen_none = refl
 
-  pub chosen_turn : (i : ℕ) (rest : List ℕ) (b : Bool) → test (seg segs i) ≡ b → chosen_of test segs (i ∷ rest) ≡ cond b (At i) (chosen_of test segs rest)
+  pub chosen_turn : (i : ℕ) (rest : List ℕ) (b : Bool) → test (seg segs i) ≡ b → chosen_of test segs (i ∷ rest) ≡ cond b (Some i) (chosen_of test segs rest)
   unfolding chosen_of
-  chosen_turn i rest b h = ap (λ (t : Bool). cond t (At i) (chosen_of test segs rest)) h
+  chosen_turn i rest b h = ap (λ (t : Bool). cond t (Some i) (chosen_of test segs rest)) h

@@ -35,18 +35,19 @@ pub record Roomy (n : ℕ) (ix : List ℕ) : Type 0 where
   pub bucket : 0 < quarter ix
   pub room : n ≤ quarter ix
 
--- Segment i, whose target is `body`, joins the descending half in front of its bucket: it gets the bucket's entry as its link, and the bucket's
--- entry names it.
-unfoldable pub joined_down : List ℕ → ℕ → ℤ → List ℕ
-joined_down ix i body =
-    let h = bucket_of (quarter ix) body in
-    set (set ix (quarter ix + i) (get_or ix h 0)) h (i + 1)
+-- Segment i, whose target is `body`, joins the half that begins at place a in front of its bucket: it gets the bucket's entry as its link, and the
+-- bucket's entry names it.
+unfoldable pub joined_at : ℕ → List ℕ → ℕ → ℤ → List ℕ
+joined_at a ix i body =
+    let h = a + bucket_of (quarter ix) body in
+    set (set ix (a + quarter ix + i) (get_or ix h 0)) h (i + 1)
 
--- The same in the ascending half.
+-- It joins the descending half, which is the first; the ascending one.
+unfoldable pub joined_down : List ℕ → ℕ → ℤ → List ℕ
+joined_down ix = joined_at 0 ix
+
 unfoldable pub joined_up : List ℕ → ℕ → ℤ → List ℕ
-joined_up ix i body =
-    let h = quarter ix + quarter ix + bucket_of (quarter ix) body in
-    set (set ix (quarter ix + quarter ix + quarter ix + i) (get_or ix h 0)) h (i + 1)
+joined_up ix = joined_at (quarter ix + quarter ix) ix
 
 -- The first i buckets of both halves are emptied.
 unfoldable pub emptied : ℕ → List ℕ → List ℕ

@@ -1,19 +1,17 @@
 -- The index of a table as an opening fills it. Assumes nothing: these are definitions.
-use Rattle.std.specs.Prelude.{ℕ, zero, suc, ◌+◌, ◌-◌, ◌≤◌, ◌<◌, ◌≡◌, Bool, cond, List, [], ◌∷◌, ℤ, length, get_or, set}
+use Rattle.std.specs.Prelude.{ℕ, zero, suc, ◌+◌, ◌-◌, ◌≤◌, ◌<◌, ◌≡◌, Bool, cond, List, [], ◌∷◌, ℤ, length, get_or, set, Option, Some, None}
 use Rattle.segment.specs.declared.Segment.{Segment}
-use Rattle.table.specs.declared.Choice.{Choice}
-use Rattle.table.specs.declared.Choice.TheVariants.{At, Nothing}
 use Rattle.table.specs.Segments.{seg}
 use Rattle.table.specs.Choosing.{last_in}
 use Rattle.index.specs.Buckets.{bucket_of, in_bucket, bucket_at}
 use Rattle.index.specs.Visiting.{entry_of, head_of}
 
 -- The first of r segments from number i on that passes the test.
-unfoldable pub first_in : (Segment → Bool) → List Segment → ℕ → ℕ → Choice
-first_in test segs i zero = Nothing
+unfoldable pub first_in : (Segment → Bool) → List Segment → ℕ → ℕ → Option ℕ
+first_in test segs i zero = None
 first_in test segs i (suc r) =
     let rest = first_in test segs (suc i) r in
-    cond (test (seg segs i)) (At i) rest
+    cond (test (seg segs i)) (Some i) rest
 
 -- The numbers of the first n segments that pass the test, from the last to the first.
 unfoldable pub all_down : (Segment → Bool) → List Segment → ℕ → List ℕ

@@ -3,13 +3,15 @@
 
 #![tactic(auto)]
 
-ghost use Rattle.std.specs.Prelude.{◌≡◌, cond, suc, ◌+◌, ◌-◌, ◌≤◌, ◌<◌, length};
+ghost use Rattle.std.specs.Prelude.{◌≡◌, suc, ◌+◌, ◌-◌, ◌≤◌, ◌<◌, length, take, drop};
 ghost use Rattle.index.specs.Buckets.{unsigned_of, bucket_of};
-ghost use Rattle.index.specs.Visiting.{place_in, start_of, next_down, next_up, on_down};
-ghost use Rattle.index.specs.Parts.{quarter, last_of, below_of, first_of, above_of, room_in, has_room, Roomy, joined_down, joined_up, emptied};
+ghost use Rattle.index.specs.Visiting.{head_of, down, up};
+ghost use Rattle.index.specs.Parts.{quarter, last_of, below_of, first_of, above_of, room_in, has_room, Roomy, joined_at, joined_down, joined_up, emptied};
+
+pub mod walks;
 
 use segment::Segment;
-use table::Choice;
+use walks::{Down, Up};
 
 // A body's number without its sign: n for n and for -1 - n.
 fn unsigned_of(body: i32) -> usize
@@ -48,139 +50,44 @@ pub fn has_room(ix: &[u16], n: usize) -> bool
 
 // ---- the parts
 
-fn last_of(ix: &[u16]) -> &[u16]
-    ensures { result.now ≡ last_of ix.now }
+// A part of an index, which begins at place a.
+fn part(ix: &[u16], a: usize) -> &[u16]
+    requires { a + quarter ix.now ≤ length ix.now }
+    ensures { result.now ≡ take (quarter ix.now) (drop a ix.now) }
 {
-    let m = ix.len() / 4;
-    &ix[0..m]
-}
-
-fn below_of(ix: &[u16]) -> &[u16]
-    ensures { result.now ≡ below_of ix.now }
-{
-    let m = ix.len() / 4;
-    let e = m + m;
-    &ix[m..e]
-}
-
-fn first_of(ix: &[u16]) -> &[u16]
-    ensures { result.now ≡ first_of ix.now }
-{
-    let m = ix.len() / 4;
-    let a = m + m;
-    let e = a + m;
-    &ix[a..e]
-}
-
-fn above_of(ix: &[u16]) -> &[u16]
-    ensures { result.now ≡ above_of ix.now }
-{
-    let m = ix.len() / 4;
-    let a = m + m + m;
-    let e = a + m;
+    let e = a + ix.len() / 4;
     &ix[a..e]
 }
 
 // ---- a walk through it
 
-// The number that an entry names among those from a up to b; n, where it names none of them.
-fn place_in(n: usize, a: usize, b: usize, e: usize) -> usize
-    ensures { result ≡ place_in n a b e }
-{
-    if e <= a {
-        return n;
-    }
-    if b < e {
-        return n;
-    }
-    e - 1
-}
-
-// Where a walk starts, in a table of n: n, where no segment of the body's bucket is named.
-fn start(heads: &[u16], n: usize, body: i32) -> usize
+// The entry of a body's bucket.
+fn head_of(heads: &[u16], body: i32) -> u16
     requires { 0 < length heads.now }
-    ensures { result ≡ start_of n heads.now body }
+    ensures { result ≡ head_of heads.now body }
 {
-    let h = bucket_of(body, heads.len());
-    place_in(n, 0, n, heads[h] as usize)
+    heads[bucket_of(body, heads.len())]
 }
 
-// Where a walk down goes from segment i: n, where it ends.
-fn next_down(links: &[u16], i: usize, n: usize) -> usize
-    requires { i < length links.now }
-    ensures { result ≡ next_down n links.now i }
-{
-    place_in(n, 0, i, links[i] as usize)
-}
-
-// Where a walk up goes from segment i: n, where it ends.
-fn next_up(links: &[u16], i: usize, n: usize) -> usize
-    requires { i < length links.now }
-    ensures { result ≡ next_up n links.now i }
-{
-    place_in(n, i + 1, n, links[i] as usize)
-}
-
-// Where a walk down a body's segments starts.
-pub fn start_down(ix: &[u16], n: usize, body: i32) -> usize
+// The numbers that a walk down a body's segments visits, in a table of n.
+pub fn down(ix: &[u16], n: usize, body: i32) -> Down<'_>
     requires { Roomy n ix.now }
-    ensures { result ≡ start_of n (last_of ix.now) body }
+    ensures { result ≡ down (below_of ix.now) n (head_of (last_of ix.now) body) }
 {
-    start(last_of(ix), n, body)
+    let links = part(ix, ix.len() / 4);
+    let heads = part(ix, 0);
+    Down::new(links, n, head_of(heads, body))
 }
 
-// Where a walk up a body's segments starts.
-pub fn start_up(ix: &[u16], n: usize, body: i32) -> usize
+// The numbers that a walk up a body's segments visits, in a table of n.
+pub fn up(ix: &[u16], n: usize, body: i32) -> Up<'_>
     requires { Roomy n ix.now }
-    ensures { result ≡ start_of n (first_of ix.now) body }
+    ensures { result ≡ up (above_of ix.now) 0 n (head_of (first_of ix.now) body) }
 {
-    start(first_of(ix), n, body)
-}
-
-// Where a walk down goes from segment i.
-fn after_down(ix: &[u16], i: usize, n: usize) -> usize
-    requires { Roomy n ix.now × (i < n) }
-    ensures { result ≡ next_down n (below_of ix.now) i }
-{
-    next_down(below_of(ix), i, n)
-}
-
-// Where a walk up goes from segment i.
-pub fn after_up(ix: &[u16], i: usize, n: usize) -> usize
-    requires { Roomy n ix.now × (i < n) }
-    ensures { result ≡ next_up n (above_of ix.now) i }
-{
-    next_up(above_of(ix), i, n)
-}
-
-// Where a walk down goes from segment i: nowhere, once there is a choice.
-pub fn unless_chosen(ix: &[u16], c: Choice, i: usize, n: usize) -> usize
-    requires { Roomy n ix.now × (i < n) }
-    ensures { result ≡ on_down c n (below_of ix.now) i }
-{
-    match c {
-        Choice::At(_) => n,
-        Choice::Nothing => after_down(ix, i, n),
-    }
-}
-
-// Where a walk down goes from segment i: nowhere, once a rival was met.
-pub fn unless_met(ix: &[u16], met: bool, i: usize, n: usize) -> usize
-    requires { Roomy n ix.now × (i < n) }
-    ensures { result ≡ cond met n (next_down n (below_of ix.now) i) }
-{
-    if met {
-        return n;
-    }
-    after_down(ix, i, n)
-}
-
-// Where a walk down the segments of a segment's target starts.
-pub fn start_at(ix: &[u16], n: usize, s: Segment) -> usize
-    requires { Roomy n ix.now }
-    ensures { result ≡ start_of n (last_of ix.now) s.target }
-{
-    start_down(ix, n, s.target)
+    let m = ix.len() / 4;
+    let links = part(ix, m + m + m);
+    let heads = part(ix, m + m);
+    Up::new(links, n, head_of(heads, body))
 }
 
 // ---- how it is filled
@@ -191,35 +98,22 @@ pub fn clear(ix: &mut [u16])
     ensures { ix.new ≡ emptied (quarter ix.old) ix.old }
 {
     let m = ix.len() / 4;
-    let mut i = 0;
-    while i < m {
+    for i in 0..m {
         ix[i] = 0;
         ix[m + m + i] = 0;
-        i += 1;
     }
 }
 
-// Segment i, whose target is `body`, joins the descending half.
-fn join_down(ix: &mut [u16], i: usize, body: i32)
+// Segment i, whose target is `body`, joins the half that begins at place a.
+fn join_half(ix: &mut [u16], a: usize, i: usize, body: i32)
+    requires half { a + quarter ix.old + quarter ix.old ≤ length ix.old }
     requires i_bound { i < quarter ix.old }
     requires i_bound_2 { i < 65535 }
-    ensures { ix.new ≡ joined_down ix.old i body }
+    ensures { ix.new ≡ joined_at a ix.old i body }
 {
     let m = ix.len() / 4;
-    let h = bucket_of(body, m);
-    ix[m + i] = ix[h];
-    ix[h] = (i + 1) as u16;
-}
-
-// Segment i, whose target is `body`, joins the ascending half.
-fn join_up(ix: &mut [u16], i: usize, body: i32)
-    requires i_bound { i < quarter ix.old }
-    requires i_bound_2 { i < 65535 }
-    ensures { ix.new ≡ joined_up ix.old i body }
-{
-    let m = ix.len() / 4;
-    let h = m + m + bucket_of(body, m);
-    ix[m + m + m + i] = ix[h];
+    let h = a + bucket_of(body, m);
+    ix[a + m + i] = ix[h];
     ix[h] = (i + 1) as u16;
 }
 
@@ -237,6 +131,7 @@ pub fn join(ix: &mut [u16], n: usize, i: usize, s: Segment, u: Segment)
     ensures { ix.new ≡ joined_up (joined_down ix.old i s.target) (n - suc i) u.target }
 {
     let j = mirrored(n, i);
-    join_down(ix, i, s.target);
-    join_up(ix, j, u.target);
+    join_half(ix, 0, i, s.target);
+    let m = ix.len() / 4;
+    join_half(ix, m + m, j, u.target);
 }

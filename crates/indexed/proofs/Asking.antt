@@ -3,116 +3,60 @@
 use mathlib.Core.Path.{◌≡◌, refl, sym, ap, ap₂, ◌∙◌}
 use mathlib.Core.Bool.{Bool, true, false, cond}
 use mathlib.Core.List.{List, [], ◌∷◌, map}
-use Prim.Native.Nat.{ℕ, ◌≤◌, ◌<◌}
+use Prim.Native.Nat.{ℕ, ◌<◌}
 use native.Mathlib.Omega.{arith}
 use lib.ListN.{length}
 use Rattle.bits.proofs.Tests.{by_test_lem, and_first, same_z_eq}
 use Rattle.segment.specs.declared.Segment.{Segment}
-use Rattle.chain.specs.declared.Yielded.{Yielded}
-use Rattle.table.specs.declared.Choice.{Choice}
-use Rattle.table.specs.declared.Choice.TheVariants.{At, Nothing}
-use Rattle.table.specs.Segments.{seg}
-use Rattle.table.specs.Choosing.{or_else}
-use Rattle.table.specs.Steps.{place_in, Within}
+use Rattle.std.proofs.Common.{Option, Some, None}
+use Rattle.std.specs.Option.{option_or}
+use Rattle.table.specs.Steps.{Within}
 use Rattle.table.specs.Marks.{MarkedRight}
 use Rattle.index.specs.Parts.{last_of, below_of, first_of, above_of, has_room, Roomy, RightIndex}
 use Rattle.index.proofs.Right.{last_by_index}
-use Rattle.index.proofs.Turns.{last_by_within}
+use Rattle.index.proofs.Choices.{last_by_within}
 use Rattle.index.proofs.Parts.{room_yes, length_last, length_first}
-use Rattle.chain.specs.Step.{Evaluation, yield_of}
-use Rattle.chain.specs.Walk.{chain_limit}
-use Rattle.chain.specs.Steps.{begin}
+use Rattle.chain.specs.Step.{Evaluation}
 use Rattle.spk.specs.declared.Question.{Question}
-use Rattle.spk.specs.declared.Memory.{Memory}
-use Rattle.spk.specs.declared.Way.TheVariants.{Forward, Reversed, Chained}
 use Rattle.spk.specs.declared.Answer.{Answer}
 use Rattle.spk.specs.declared.Asked.{Asked}
 use Rattle.spk.specs.Questions.{hits, swapped}
-use Rattle.spk.specs.Choosing.{recall, last_forward, last_reversed, forward_in, remembered, remembered_at}
-use Rattle.spk.specs.Answers.{settled, negated_of, difference_of}
-use Rattle.spk.specs.Asking.{Found, leg_from, chained, backward, found_by, answer_to, asked}
-use Rattle.spk.specs.Steps.{is_failed, is_early, early_answer}
+use Rattle.spk.specs.Choosing.{Memory, recall, last_forward, last_reversed, forward_in, remembered}
+use Rattle.spk.specs.Answers.{difference_of}
+use Rattle.spk.specs.Asking.{Found, leg_from, chained, backward, answer_to, asked}
+use Rattle.spk.specs.Steps.{early, early_or, back_or, ahead_or, asked_from}
 use Rattle.spk.specs.Turning.{turned_asked}
 use Rattle.spk.specs.Runs.{Asking, Plain, InFrame, Single, fresh, replied, run}
-use Rattle.spk.proofs.Finding.{at_place, no_place, recall_within, failed_first, asked_early, late}
+use Rattle.spk.proofs.Finding.{asked_early, late}
+use Rattle.spk.proofs.Handed.{back_found, ahead_found}
 use Rattle.spk.proofs.NoMemory.{no_memory}
-use Rattle.indexed.specs.Stepping.{step_by}
-use Rattle.indexed.specs.Asking.{last_found, forward_found, chained_by, back_or, backward_by, ahead_or, chosen_asked, asked_through, asked_with, replied_with, run_with}
-use Rattle.indexed.proofs.Stepping.{on_by, begin_by, to_zero_by_index}
+use Rattle.indexed.specs.Asking.{last_found, forward_found, chained_by, backward_by, chosen_asked, asked_through, asked_with, replied_with, run_with}
+use Rattle.indexed.proofs.Stepping.{to_zero_by_index}
 
--- ---- the forward choice
-module _ (segs : List Segment) (n : ℕ) (ix : List ℕ) (m : Memory) (q : Question) where
-  abbrev kept : Choice
-  kept = recall segs n m q
-
-  pub found_kept : place_in kept n < n → kept ≡ forward_found segs n ix m q
-  unfolding forward_found
-  found_kept l = at_place n kept l ∙ sym (ap (λ (c : Choice). or_else c (last_found segs n ix q)) (at_place n kept l))
-
-  pub found_last : n ≤ place_in kept n → last_found segs n ix q ≡ forward_found segs n ix m q
-  unfolding forward_found
-  found_last l = sym (ap (λ (c : Choice). or_else c (last_found segs n ix q)) (no_place n kept (recall_within segs n m q) l))
-
-  within_else : (a b : Choice) → Within n a → Within n b → Within n (or_else a b)
-  within_else (At i) b x y = x
-  within_else Nothing b x y = y
-
-  last_within : Within n (last_found segs n ix q)
-  last_within = last_by_within (hits q) segs (below_of ix) n (last_of ix) q.target
-
-  pub forward_within : Within n (forward_found segs n ix m q)
-  unfolding forward_found
-  forward_within = within_else kept (last_found segs n ix q) (recall_within segs n m q) last_within
-
--- ---- the chain
-module _ (ev : Evaluation) (segs : List Segment) (n : ℕ) (ix : List ℕ) (q : Question) where
-  abbrev goes : Question → Yielded
-  goes x = on_by (step_by ev segs n (first_of ix) (above_of ix)) chain_limit (begin (leg_from x))
-
-  pub chained_told : difference_of (goes q) (goes (swapped q)) ≡ chained_by ev segs n ix q
-  unfolding chained_by
-  chained_told = let step = step_by ev segs n (first_of ix) (above_of ix) in ap₂ difference_of (begin_by step (leg_from q)) (begin_by step (leg_from (swapped q)))
-
-  pub chained_failed : is_failed (goes q) ≡ true → goes q ≡ chained_by ev segs n ix q
-  chained_failed e = failed_first (goes q) (goes (swapped q)) e ∙ chained_told
-
-  -- ---- backward
-  abbrev back : Choice
-  back = last_found segs n ix (swapped q)
-
-  backs : Choice → Answer
-  backs c = answer_to (back_or ev segs q (chained_by ev segs n ix q) c)
-
-  pub back_at : place_in back n < n → let i = place_in back n in settled (Reversed i) (negated_of (yield_of (seg segs i) (ev (seg segs i) i q.et))) ≡ answer_to (backward_by ev segs n ix q)
-  unfolding backward_by backs
-  back_at l = sym (ap backs (at_place n back l))
-
-  pub back_none : n ≤ place_in back n → settled Chained (chained_by ev segs n ix q) ≡ answer_to (backward_by ev segs n ix q)
-  unfolding backward_by backs
-  back_none l = sym (ap backs (no_place n back (last_by_within (hits (swapped q)) segs (below_of ix) n (last_of ix) q.center) l))
+-- ---- what the walk finds
+pub last_within : (segs : List Segment) (n : ℕ) (ix : List ℕ) (q : Question) → Within n (last_found segs n ix q)
+last_within segs n ix q = last_by_within (hits q) segs (below_of ix) n (last_of ix) q.target
 
 -- ---- the question
 module _ (limit : ℕ) (ev : Evaluation) (segs : List Segment) (n : ℕ) (ix : List ℕ) (m : Memory) (q : Question) where
-  abbrev c : Choice
+  abbrev c : Option ℕ
   c = forward_found segs n ix m q
 
-  ways : Bool → Asked
-  ways b = cond b (record { answer = early_answer limit n q; memory = m }) (chosen_asked ev segs n ix m q c)
+  ways : Option Answer → Asked
+  ways o = early_or o m (chosen_asked ev segs n ix m q c)
 
-  pub through_early : is_early limit n q ≡ true → record { answer = early_answer limit n q; memory = m } ≡ asked_through limit ev segs n ix m q
+  pub through_early : (a : Answer) → early limit n q ≡ Some a → record { answer = a; memory = m } ≡ asked_through limit ev segs n ix m q
   unfolding asked_through ways
-  through_early e = sym (ap ways e)
+  through_early a e = sym (ap ways e)
 
-  by_choice : is_early limit n q ≡ false → (d : Choice) → c ≡ d → chosen_asked ev segs n ix m q d ≡ asked_through limit ev segs n ix m q
+  pub by_choice : early limit n q ≡ None → (d : Option ℕ) → c ≡ d → chosen_asked ev segs n ix m q d ≡ asked_through limit ev segs n ix m q
   unfolding asked_through ways
   by_choice e d f = sym (ap ways e ∙ ap (chosen_asked ev segs n ix m q) f)
 
-  pub through_at : is_early limit n q ≡ false → let i = place_in c n in i < n
-      → record { answer = settled (Forward i) (yield_of (seg segs i) (ev (seg segs i) i q.et)); memory = remembered_at m i (seg segs i) } ≡ asked_through limit ev segs n ix m q
-  through_at e l = by_choice e (At (place_in c n)) (at_place n c l)
-
-  pub through_back : is_early limit n q ≡ false → n ≤ place_in c n → record { answer = answer_to (backward_by ev segs n ix q); memory = m } ≡ asked_through limit ev segs n ix m q
-  through_back e l = by_choice e Nothing (no_place n c (forward_within segs n ix m q) l)
+  -- what is found by the walk and the chain up the index handed in
+  pub handed_through : asked_from limit ev segs n m q (last_found segs n ix) (chained_by ev segs n ix) ≡ asked_through limit ev segs n ix m q
+  unfolding asked_from asked_through forward_found backward_by
+  handed_through = refl
 
   rooms : Bool → Asked
   rooms b = cond b (asked_through limit ev segs n ix m q) (asked limit ev segs n m q)
@@ -148,32 +92,25 @@ module _ (ev : Evaluation) (segs : List Segment) (n : ℕ) (ix : List ℕ) (righ
       ap₂ difference_of (to_zero_by_index ev segs n (first_of ix) (above_of ix) right.up first_some (leg_from q))
       (to_zero_by_index ev segs n (first_of ix) (above_of ix) right.up first_some (leg_from (swapped q)))
 
-  back_found : (q : Question) (x : Choice) → back_or ev segs q (chained ev segs n q) x ≡ backward ev segs n q x
-  back_found q (At i) = refl
-  back_found q Nothing = refl
-
-  ahead_found : (q : Question) (x : Choice) → ahead_or ev segs q (backward ev segs n q (last_reversed segs n q)) x ≡ found_by ev segs n q x
-  ahead_found q (At i) = refl
-  ahead_found q Nothing = refl
-
   backward_same : (q : Question) → backward_by ev segs n ix q ≡ backward ev segs n q (last_reversed segs n q)
   unfolding backward_by
-  backward_same q = ap₂ (back_or ev segs q) (chain_by_index q) (choice_by_index (swapped q)) ∙ back_found q (last_reversed segs n q)
+  backward_same q = ap₂ (back_or ev segs q) (chain_by_index q) (choice_by_index (swapped q)) ∙ back_found ev segs n q (last_reversed segs n q)
 
   forward_same : (m : Memory) (q : Question) → forward_found segs n ix m q ≡ forward_in segs n m q
   unfolding forward_found forward_in
-  forward_same m q = ap (or_else (recall segs n m q)) (choice_by_index q)
+  forward_same m q = ap (option_or (recall segs n m q)) (choice_by_index q)
 
   through_same : (limit : ℕ) (m : Memory) (q : Question) → asked_through limit ev segs n ix m q ≡ asked limit ev segs n m q
-  unfolding asked_through
   through_same limit m q =
-      by_test_lem (is_early limit n q)
-      (λ e. sym (through_early limit ev segs n ix m q e) ∙ asked_early limit ev segs n m q e)
-      (λ e.
-      sym (by_choice limit ev segs n ix m q e (forward_in segs n m q) (forward_same m q))
-      ∙ ap (λ (f : Found). record { answer = answer_to f; memory = remembered segs m (forward_in segs n m q) })
-      (ap (λ (b : Found). ahead_or ev segs q b (forward_in segs n m q)) (backward_same q) ∙ ahead_found q (forward_in segs n m q))
-      ∙ late limit ev segs n m q e (forward_in segs n m q) refl)
+      go (early limit n q) refl
+    where
+      go : (o : Option Answer) → early limit n q ≡ o → asked_through limit ev segs n ix m q ≡ asked limit ev segs n m q
+      go (Some a) e = sym (through_early limit ev segs n ix m q a e) ∙ asked_early limit ev segs n m q a e
+      go None e =
+          sym (by_choice limit ev segs n ix m q e (forward_in segs n m q) (forward_same m q))
+          ∙ ap (λ (f : Found). record { answer = answer_to f; memory = remembered segs m (forward_in segs n m q) })
+          (ap (λ (b : Found). ahead_or ev segs q b (forward_in segs n m q)) (backward_same q) ∙ ahead_found ev segs n q (forward_in segs n m q))
+          ∙ late limit ev segs n m q e (forward_in segs n m q) refl
 
 module _ (limit : ℕ) (ev : Evaluation) (segs : List Segment) (n : ℕ) (ix : List ℕ) (right : has_room n ix ≡ true → RightIndex segs n ix) where
   -- THEOREM: with an index that is right where it has room every question is answered as without one, and as much is remembered

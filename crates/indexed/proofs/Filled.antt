@@ -5,8 +5,7 @@ use Rattle.daf.specs.declared.Family.{Family}
 use Rattle.segment.specs.declared.Segment.{Segment}
 use Rattle.table.specs.Segments.{empty_segment}
 use Rattle.table.specs.Places.{lent_limit, limit_of, empty_places}
-use Rattle.opening.specs.declared.Plan.{Plan}
-use Rattle.opening.specs.Steps.{count_in, carried_out}
+use Rattle.opening.specs.Steps.{Plan, count_in, carried_out}
 use Rattle.opening.proofs.Planned.{carried_length}
 use Rattle.indexed.specs.Opening.{indexed_by}
 

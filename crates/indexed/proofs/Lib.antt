@@ -1,7 +1,6 @@
 -- Laws that callers cite.
 pub mod Stepping
 pub mod Scanning
-pub mod Walking
 pub mod Asking
 pub mod Orienting
 pub mod Opening

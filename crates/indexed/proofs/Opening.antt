@@ -1,4 +1,5 @@
 -- The opening into a lent table and its index: a law for each way through the code; the index that it leaves is right. Assumes nothing.
+use Rattle.std.proofs.Common.{Result, Ok, Err}
 use mathlib.Core.Path.{◌≡◌, refl, sym, ap, ap₂, subst, ◌∙◌}
 use mathlib.Core.Bool.{Bool, true, false, cond, not, true≢false, false≢true}
 use mathlib.Core.List.{List}
@@ -8,18 +9,14 @@ use lib.ListN.{length}
 use Rattle.bits.proofs.Tests.{by_test_lem}
 use Rattle.daf.specs.declared.Family.{Family}
 use Rattle.daf.specs.declared.Family.TheVariants.{Spk, Pck}
-use Rattle.daf.specs.declared.Cursor.{Cursor}
 use Rattle.segment.specs.declared.Segment.{Segment}
 use Rattle.table.specs.Places.{lent_limit, limit_of}
 use Rattle.table.specs.Segments.{seg}
 use Rattle.table.specs.Marks.{others, marked_to}
 use Rattle.table.proofs.Limits.{limit_most}
 use Rattle.table.proofs.Marks.{marked_none}
-use Rattle.opening.specs.declared.Plan.{Plan}
-use Rattle.opening.specs.declared.Plan.TheVariants.{Fill, Refuse}
-use Rattle.opening.specs.declared.Found.{Found}
-use Rattle.opening.specs.declared.Found.TheVariants.{Accepted}
-use Rattle.opening.specs.Steps.{count_in, found_in, marks_for, plan_of, carried_out}
+use Rattle.opening.specs.declared.Filling.{Filling}
+use Rattle.opening.specs.Steps.{Plan, count_in, found_in, marks_for, plan_of, carried_out}
 use Rattle.opening.specs.Opening.{open_cases}
 use Rattle.opening.specs.Lent.{found, table_after}
 use Rattle.opening.proofs.Planned.{plan_fits, found_told_lem, table_told}
@@ -27,6 +24,7 @@ use Rattle.index.specs.Parts.{quarter, room_in, has_room, Roomy, emptied, joined
 use Rattle.index.proofs.Parts.{room_yes, length_last, filled_right, filled_length, filled_same}
 use Rattle.index.proofs.Marking.{others_by_index, indexed_marked, marked_targets}
 use Rattle.indexed.specs.Opening.{others_by, takes, indexed_by, index_with, index_after}
+use Rattle.refusal.specs.declared.Refusal.{Refusal}
 
 -- ---- marks: after each, the index is still right, so what the walk meets is what a scan of all meets
 pub others_told : (segs : List Segment) (n i : ℕ) (ix : List ℕ) → RightIndex segs n ix → Roomy n ix → let zs = marked_to segs n i in
@@ -68,8 +66,8 @@ module _ (p : Plan) (segs : List Segment) (ix : List ℕ) where
   taken e = sym (ap by (not_no (takes (length ix) p) e))
 
 takes_yes : (p : Plan) (ix : List ℕ) → takes (length ix) p ≡ true → Roomy (count_in p) ix
-takes_yes (Fill n c) ix e = room_yes n ix e
-takes_yes (Refuse r) ix e = absurd (false≢true e)
+takes_yes (Ok p) ix e = room_yes p.count ix e
+takes_yes (Err r) ix e = absurd (false≢true e)
 
 pub takes_room : (p : Plan) (ix : List ℕ) → not (takes (length ix) p) ≡ false → Roomy (count_in p) ix
 takes_room p ix e = takes_yes p ix (not_no (takes (length ix) p) e)
@@ -86,8 +84,8 @@ marked_count Spk n l = refl
 marked_count Pck n l = let no : ⊥ = omega arith in absurd no
 
 room_takes : (p : Plan) (ix : List ℕ) → 0 < count_in p → room_in (count_in p) (length ix) ≡ true → takes (length ix) p ≡ true
-room_takes (Fill n c) ix l e = e
-room_takes (Refuse r) ix l e = let no : ⊥ = omega arith in absurd no
+room_takes (Ok p) ix l e = e
+room_takes (Err r) ix l e = let no : ⊥ = omega arith in absurd no
 
 pub right_for : (f : Family) (p : Plan) (segs : List Segment) (ix : List ℕ) → let m = marks_for f (count_in p) in
     0 < m → has_room m (indexed_by p segs ix) ≡ true → RightIndex segs m (indexed_by p segs ix)
@@ -115,8 +113,8 @@ index_marked p segs m ix = index_same p segs (marked_to segs m m) ix (sym (fille
 
 index_by : (p : Plan) (segs : List Segment) (ix : List ℕ) → indexed_by p segs ix ≡ index_with (found_in p) segs ix
 unfolding indexed_by
-index_by (Fill n c) segs ix = refl
-index_by (Refuse r) segs ix = refl
+index_by (Ok p) segs ix = refl
+index_by (Err r) segs ix = refl
 
 pub index_told : (f : Family) (k : List ℕ) (segs : List Segment) (ix : List ℕ) → let limit = limit_of (length segs) in let p = plan_of f limit k in
     indexed_by p (carried_out f k p segs) ix ≡ index_after f limit k segs ix
@@ -124,7 +122,7 @@ unfolding index_after
 index_told f k segs ix =
     let limit = limit_of (length segs) in
     let p = plan_of f limit k in
-    index_by p (carried_out f k p segs) ix ∙ ap₂ (λ (r : Found) (l : List Segment). index_with r l ix) (found_told_lem f limit k) (table_told f k segs)
+    index_by p (carried_out f k p segs) ix ∙ ap₂ (λ (r : Result ℕ Refusal) (l : List Segment). index_with r l ix) (found_told_lem f limit k) (table_told f k segs)
 
 -- an index that is filled where it has room is right where it has room
 right_with : (n : ℕ) (segs : List Segment) (ix : List ℕ) → let after = cond (has_room n ix) (filled_index segs n ix) ix in has_room n after ≡ true → RightIndex segs n after
@@ -135,15 +133,15 @@ right_with n segs ix r =
     (λ y. absurd (true≢false (sym r ∙ ap (has_room n) (ap by y) ∙ y)))
 
 -- THEOREM: the index that an accepted opening left is right for the table that it left, where it has room for the segments
-pub opened_right : (f : Family) (limit : ℕ) (k : List ℕ) (segs : List Segment) (ix : List ℕ) (n : ℕ) → found f limit k ≡ Accepted n
+pub opened_right : (f : Family) (limit : ℕ) (k : List ℕ) (segs : List Segment) (ix : List ℕ) (n : ℕ) → found f limit k ≡ Ok n
     → has_room n (index_after f limit k segs ix) ≡ true → RightIndex (table_after f limit k segs) n (index_after f limit k segs ix)
 unfolding index_after
 opened_right f limit k segs ix n e r =
     let after = table_after f limit k segs in
-    let is = ap (λ (x : Found). index_with x after ix) e in
+    let is = ap (λ (x : Result ℕ Refusal). index_with x after ix) e in
     subst (RightIndex after n) (sym is) (right_with n after ix (sym (ap (has_room n) is) ∙ r))
 
 -- .. and so is the one that a plan which fills left
-pub planned_right : (n : ℕ) (c : Cursor) (segs : List Segment) (ix : List ℕ) → has_room n (indexed_by (Fill n c) segs ix) ≡ true → RightIndex segs n (indexed_by (Fill n c) segs ix)
+pub planned_right : (x : Filling) (segs : List Segment) (ix : List ℕ) → has_room x.count (indexed_by (Ok x) segs ix) ≡ true → RightIndex segs x.count (indexed_by (Ok x) segs ix)
 unfolding indexed_by
-planned_right n c segs ix r = right_with n segs ix r
+planned_right x segs ix r = right_with x.count segs ix r

@@ -10,7 +10,7 @@ use Rattle.segment.specs.declared.Segment.{Segment}
 use Rattle.table.specs.Steps.{Within}
 use Rattle.index.specs.Parts.{last_of, below_of, has_room, RightIndex}
 use Rattle.index.proofs.Right.{last_by_index}
-use Rattle.index.proofs.Turns.{last_by_within}
+use Rattle.index.proofs.Choices.{last_by_within}
 use Rattle.index.proofs.Parts.{room_yes, length_last}
 use Rattle.pck.specs.declared.Question.{Question}
 use Rattle.pck.specs.declared.Oriented.{Oriented}

@@ -1,44 +1,31 @@
--- A step through an index: a turn of its loop; and through an index as it is to be it is the step over all segments, and so is the walk.
+-- A step through an index as it is to be is the step over all segments, and so is the walk.
 -- Assumes nothing.
 use mathlib.Core.Path.{◌≡◌, refl, sym, ap, ◌∙◌}
 use mathlib.Core.Bool.{Bool, true, false, cond}
 use mathlib.Core.List.{List, [], ◌∷◌}
-use Prim.Native.Nat.{ℕ, zero, suc, ◌-◌, ◌≤◌, ◌<◌}
-use native.Mathlib.Omega.{arith}
-use lib.ListN.{length, get_or}
+use Prim.Native.Nat.{ℕ, zero, suc, ◌<◌}
+use lib.ListN.{length}
 use borrow.Author.Tests.{eq-eqb}
 use Rattle.bits.proofs.Tests.{by_test_lem, and_first, same_z_eq}
 use Rattle.segment.specs.declared.Segment.{Segment}
-use Rattle.chain.specs.declared.Yielded.{Yielded}
-use Rattle.chain.specs.declared.Yielded.TheVariants as yielded
+use Rattle.std.proofs.Common.{Ok}
 use Rattle.table.specs.Segments.{seg}
 use Rattle.index.specs.Buckets.{bucket_of, in_bucket}
-use Rattle.index.specs.Visiting.{head_of, start_of, next_up}
 use Rattle.index.specs.Right.{all_up, IndexedUp}
-use Rattle.index.proofs.Turns.{rises, rest_up_lem, rest_up_end, up_place, up_turn}
 use Rattle.index.proofs.Right.{all_up_turn, not_weaker, visited_up}
 use Rattle.chain.specs.declared.Leg.{Leg}
 use Rattle.chain.specs.declared.Step.{Step}
 use Rattle.chain.specs.declared.Step.TheVariants.{Blocked}
-use Rattle.chain.specs.declared.Next.{Next}
-use Rattle.chain.specs.declared.Next.TheVariants.{Ended, Onward}
 use Rattle.chain.specs.Step.{Evaluation, leaves, look, is_end, step_in, step_from}
-use Rattle.chain.specs.Walk.{chain_limit, no_coverage, advance, follow, walk_from, is_zero, to_zero}
-use Rattle.chain.specs.Steps.{begin}
-use Rattle.indexed.specs.Stepping.{step_over, step_by, place_by, walk_by, to_zero_by}
+use Rattle.chain.specs.Walk.{chain_limit, is_zero, to_zero}
+use Rattle.chain.specs.Visited.{step_over}
+use Rattle.chain.specs.Walked.{to_zero_by}
+use Rattle.chain.proofs.Walked.{walk_same}
+use Rattle.indexed.specs.Stepping.{step_by}
 use Rattle.chain.proofs.Steps.{look_past, step_from_lem}
 
--- ---- where the scan goes
-module _ (next : Step) (n : ℕ) (above : List ℕ) (i : ℕ) where
-  pub by_less : i < n → n - place_by next n above i < n - i
-  by_less h = go (is_end next)
-    where
-      go : (b : Bool) → n - cond b n (next_up n above i) < n - i
-      go true = omega arith
-      go false = omega (arith, (rises n i (get_or above i 0) h).0)
-
 module _ (ev : Evaluation) (segs : List Segment) (leg : Leg) where
-  -- ---- a turn of the loop
+  -- ---- a segment more
   pub over_none : (kept : Step) → step_over ev segs leg kept [] ≡ kept
   unfolding step_over
   over_none kept = refl
@@ -47,26 +34,6 @@ module _ (ev : Evaluation) (segs : List Segment) (leg : Leg) where
       → step_over ev segs leg kept (i ∷ rest) ≡ cond (is_end next) next (step_over ev segs leg next rest)
   unfolding step_over
   over_turn kept next i rest e = ap (λ (x : Step). cond (is_end x) x (step_over ev segs leg x rest)) (sym e)
-
-  module _ (n : ℕ) (first above : List ℕ) where
-    pub by_start : step_by ev segs n first above leg ≡ step_over ev segs leg Blocked (rest_up_lem above n (start_of n first leg.body))
-    unfolding step_by
-    by_start = ap (step_over ev segs leg Blocked) (up_place above n 0 n (head_of first leg.body) (omega arith))
-
-    pub by_turn : (kept next : Step) (i : ℕ) → i < n → next ≡ look ev leg kept (seg segs i) i
-        → step_over ev segs leg kept (rest_up_lem above n i) ≡ step_over ev segs leg next (rest_up_lem above n (place_by next n above i))
-    by_turn kept next i l e =
-        ap (step_over ev segs leg kept) (up_turn above n i l)
-        ∙ over_turn kept next i (rest_up_lem above n (next_up n above i)) e
-        ∙ go (is_end next)
-      where
-        go : (b : Bool) → cond b next (step_over ev segs leg next (rest_up_lem above n (next_up n above i)))
-            ≡ step_over ev segs leg next (rest_up_lem above n (cond b n (next_up n above i)))
-        go true = sym (ap (step_over ev segs leg next) (rest_up_end above n n (omega arith)) ∙ over_none next)
-        go false = refl
-
-    pub by_end : (kept : Step) (i : ℕ) → n ≤ i → step_over ev segs leg kept (rest_up_lem above n i) ≡ kept
-    by_end kept i l = ap (step_over ev segs leg kept) (rest_up_end above n i l) ∙ over_none kept
 
   -- ---- over the segments that pass a test that all those of the body pass, it is the scan of all
   module _ (test : Segment → Bool) (implies : (s : Segment) → leaves s leg ≡ true → test s ≡ true) where
@@ -113,42 +80,11 @@ module _ (ev : Evaluation) (segs : List Segment) (leg : Leg) where
       ∙ over_all_lem (in_bucket m h) (λ s y. eq-eqb _ _ (ap (bucket_of m) (same_z_eq _ _ (and_first _ _ y)))) Blocked 0 n refl
       ∙ sym (step_from_lem ev segs leg n)
 
--- ---- the walk, by what a step gives
-module _ (step : Leg → Step) where
-  -- what a walk of at most so many steps results in, from where it stands
-  abbrev pub on_by : ℕ → Next → Yielded
-  on_by w a = follow (λ (on : Leg). walk_by step on w) a
-
-  pub on_end : (g : Leg) → no_coverage g.start ≡ on_by zero (Onward g)
-  unfolding walk_by
-  on_end g = refl
-
-  pub on_step : (g : Leg) (m : ℕ) → on_by m (advance g (step g)) ≡ on_by (suc m) (Onward g)
-  unfolding walk_by
-  on_step g m = refl
-
-  pub begin_by : (g : Leg) → on_by chain_limit (begin g) ≡ to_zero_by step g
-  unfolding to_zero_by begin
-  begin_by g = go (is_zero g)
-    where
-      go : (b : Bool) → on_by chain_limit (cond b (Ended (yielded.Given g.total)) (Onward g)) ≡ cond b (yielded.Given g.total) (walk_by step g chain_limit)
-      go true = refl
-      go false = refl
-
 module _ (ev : Evaluation) (segs : List Segment) (n : ℕ) where
-  -- where steps are those over all segments, so is the walk
-  walk_same : (step : Leg → Step) → ((leg : Leg) → step leg ≡ step_from ev segs n leg)
-      → (left : ℕ) (leg : Leg) → walk_by step leg left ≡ walk_from ev segs n leg left
-  unfolding walk_by walk_from
-  walk_same step same zero leg = refl
-  walk_same step same (suc left) leg =
-      ap (λ (x : Step). follow (λ on. walk_by step on left) (advance leg x)) (same leg)
-      ∙ ap (λ (go : Leg → Yielded). follow go (advance leg (step_from ev segs n leg))) (λ i on. walk_same step same left on i)
-
   -- THEOREM: through an index as it is to be, a body's state about body 0 is that over all segments
   pub to_zero_by_index : (first above : List ℕ) → IndexedUp segs n 0 first above → 0 < length first
       → (leg : Leg) → to_zero_by (step_by ev segs n first above) leg ≡ to_zero ev segs n leg
   unfolding to_zero_by to_zero
   to_zero_by_index first above right pos leg =
-      ap (cond (is_zero leg) (yielded.Given leg.total))
-      (walk_same (step_by ev segs n first above) (λ l. step_by_index ev segs l n first above right pos) chain_limit leg)
+      ap (cond (is_zero leg) (Ok leg.total))
+      (walk_same ev segs n (step_by ev segs n first above) (λ l. step_by_index ev segs l n first above right pos) chain_limit leg)

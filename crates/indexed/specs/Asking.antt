@@ -1,73 +1,61 @@
 -- Questions through an index, whatever this holds. Assumes nothing: these are definitions.
-use Rattle.std.specs.Prelude.{ℕ, cond, List, [], ◌∷◌}
+use Rattle.std.specs.Prelude.{ℕ, cond, List, [], ◌∷◌, ℤ, Option}
 use Rattle.frame.specs.Frame.{Matrix}
 use Rattle.segment.specs.declared.Segment.{Segment}
-use Rattle.table.specs.declared.Choice.{Choice}
-use Rattle.table.specs.declared.Choice.TheVariants.{At, Nothing}
-use Rattle.table.specs.Choosing.{or_else}
+use Rattle.std.specs.Option.{option_or}
 use Rattle.index.specs.Visiting.{last_by}
 use Rattle.index.specs.Parts.{last_of, below_of, first_of, above_of, has_room}
-use Rattle.chain.specs.declared.Yielded.{Yielded}
+use Rattle.std.specs.Prelude.{Result}
+use Rattle.frame.specs.declared.Given.{Given}
+use Rattle.refusal.specs.declared.Refusal.{Refusal}
 use Rattle.chain.specs.Step.{Evaluation}
 use Rattle.spk.specs.declared.Question.{Question}
-use Rattle.spk.specs.declared.Memory.{Memory}
-use Rattle.spk.specs.declared.Way.TheVariants.{Forward, Reversed, Chained}
 use Rattle.spk.specs.declared.Answer.{Answer}
 use Rattle.spk.specs.declared.Asked.{Asked}
-use Rattle.spk.specs.declared.Wanted.{Wanted}
 use Rattle.spk.specs.Questions.{hits, swapped}
-use Rattle.spk.specs.Choosing.{recall, remembered}
-use Rattle.spk.specs.Answers.{negated_of, difference_of}
-use Rattle.spk.specs.Asking.{Found, leg_from, given_at, answer_to, asked}
-use Rattle.spk.specs.Steps.{is_early, early_answer}
+use Rattle.spk.specs.Choosing.{Memory, recall}
+use Rattle.spk.specs.Answers.{difference_of}
+use Rattle.spk.specs.Asking.{Found, leg_from, asked}
+use Rattle.spk.specs.Steps.{early, early_or, back_or, chosen_or}
 use Rattle.spk.specs.Turning.{turned_asked}
 use Rattle.spk.specs.Alone.{alone_answer}
 use Rattle.spk.specs.Runs.{Asking, Plain, InFrame, Single}
-use Rattle.indexed.specs.Stepping.{step_by, to_zero_by}
+use Rattle.chain.specs.Walked.{to_zero_by}
+use Rattle.indexed.specs.Stepping.{step_by}
 
 -- The last covering segment of a question's pair that the walk down the index finds.
-abbrev pub last_found : List Segment → ℕ → List ℕ → Question → Choice
+abbrev pub last_found : List Segment → ℕ → List ℕ → Question → Option ℕ
 last_found segs n ix q = last_by (hits q) segs n (last_of ix) (below_of ix) q.target
 
 -- Forward: the remembered segment, else the last that the walk finds.
-unfoldable pub forward_found : List Segment → ℕ → List ℕ → Memory → Question → Choice
-forward_found segs n ix m q = or_else (recall segs n m q) (last_found segs n ix q)
+unfoldable pub forward_found : List Segment → ℕ → List ℕ → Memory → Question → Option ℕ
+forward_found segs n ix m q = option_or (recall segs n m q) (last_found segs n ix q)
 
 -- The chain, each step up the index.
-unfoldable pub chained_by : Evaluation → List Segment → ℕ → List ℕ → Question → Yielded
+unfoldable pub chained_by : Evaluation → List Segment → ℕ → List ℕ → Question → Result Given Refusal
 chained_by ev segs n ix q =
     let step = step_by ev segs n (first_of ix) (above_of ix) in
     difference_of (to_zero_by step (leg_from q)) (to_zero_by step (leg_from (swapped q)))
-
--- Reversed, all six negated; else what the chain resulted in.
-abbrev pub back_or : Evaluation → List Segment → Question → Yielded → Choice → Found
-back_or ev segs q chain (At i) = record { way = Reversed i; result = negated_of (given_at ev segs q i) }
-back_or ev segs q chain Nothing = record { way = Chained; result = chain }
 
 -- What there is backward.
 unfoldable pub backward_by : Evaluation → List Segment → ℕ → List ℕ → Question → Found
 backward_by ev segs n ix q = back_or ev segs q (chained_by ev segs n ix q) (last_found segs n ix (swapped q))
 
--- The forward choice; else what there is backward.
-abbrev pub ahead_or : Evaluation → List Segment → Question → Found → Choice → Found
-ahead_or ev segs q back (At i) = record { way = Forward i; result = given_at ev segs q i }
-ahead_or ev segs q back Nothing = back
-
 -- What a forward choice results in, and what is remembered after it.
-abbrev pub chosen_asked : Evaluation → List Segment → ℕ → List ℕ → Memory → Question → Choice → Asked
-chosen_asked ev segs n ix m q c = record { answer = answer_to (ahead_or ev segs q (backward_by ev segs n ix q) c); memory = remembered segs m c }
+abbrev pub chosen_asked : Evaluation → List Segment → ℕ → List ℕ → Memory → Question → Option ℕ → Asked
+chosen_asked ev segs n ix m q c = chosen_or ev segs m q (backward_by ev segs n ix q) c
 
 -- A question through the index: the tests before the choice, which are those without an index; then the choice.
 unfoldable pub asked_through : ℕ → Evaluation → List Segment → ℕ → List ℕ → Memory → Question → Asked
 asked_through limit ev segs n ix m q =
-    cond (is_early limit n q) (record { answer = early_answer limit n q; memory = m }) (chosen_asked ev segs n ix m q (forward_found segs n ix m q))
+    early_or (early limit n q) m (chosen_asked ev segs n ix m q (forward_found segs n ix m q))
 
 -- A question with a memory and an index: through the index, and without it where it has no room for the table.
 unfoldable pub asked_with : ℕ → Evaluation → List Segment → ℕ → List ℕ → Memory → Question → Asked
 asked_with limit ev segs n ix m q = cond (has_room n ix) (asked_through limit ev segs n ix m q) (asked limit ev segs n m q)
 
 -- A question in a frame, with an index.
-abbrev pub asked_in_with : ℕ → Evaluation → List Segment → ℕ → List ℕ → Memory → Question → Wanted → Matrix → Asked
+abbrev pub asked_in_with : ℕ → Evaluation → List Segment → ℕ → List ℕ → Memory → Question → Option ℤ → Matrix → Asked
 asked_in_with limit ev segs n ix m q wanted rot = turned_asked wanted rot (asked_with limit ev segs n ix m q)
 
 -- The answer with a memory and an index, of every kind, as `replied` has it with a memory alone.

@@ -11,93 +11,33 @@ ghost use Rattle.table.specs.Marks.{marked_to};
 ghost use Rattle.opening.specs.Steps.{count_in, Fits, carried_out};
 ghost use Rattle.opening.specs.Lent.{found, table_after};
 ghost use Rattle.opening.specs.Told.{found_told};
-ghost use Rattle.index.specs.Visiting.{start_of};
-ghost use Rattle.index.specs.Parts.{Roomy, last_of, first_of, above_of, has_room, filled_index, RightIndex};
-ghost use Rattle.chain.specs.Walk.{follow};
-ghost use Rattle.spk.specs.Asking.{answer_to};
+ghost use Rattle.index.specs.Parts.{Roomy, first_of, above_of, has_room, filled_index, RightIndex};
+ghost use Rattle.spk.specs.Asking.{leg_from};
 ghost use Rattle.spk.specs.Told.{asked_told};
 ghost use Rattle.pck.specs.Told.{oriented_told};
-ghost use Rattle.indexed.specs.Stepping.{place_by, step_by, walk_by};
+ghost use Rattle.chain.specs.Walked.{to_zero_by};
+ghost use Rattle.indexed.specs.Stepping.{step_by};
 ghost use Rattle.indexed.specs.Answering.{indexed_asked, indexed_asked_in, indexed_oriented};
-ghost use Rattle.indexed.specs.Asking.{last_found, forward_found, chained_by, backward_by, asked_through};
+ghost use Rattle.indexed.specs.Asking.{last_found, chained_by, asked_through};
 ghost use Rattle.indexed.specs.Orienting.{body_found, oriented_through};
 ghost use Rattle.indexed.specs.Opening.{takes, indexed_by, others_by, index_after};
 
-use chain::{Leg, Next, Step, Yielded};
+use chain::{Leg, Step};
 use daf::Family;
-use opening::{Found, Plan};
+use frame::Given;
+use opening::Plan;
+use refusal::Refusal;
 use segment::Segment;
-use spk::{Answer, Asked, Memory, Question, Wanted};
-use table::Choice;
-
-// ---- where a walk starts and goes
-
-// The walk down the segments of a question's target.
-fn start_for(ix: &[u16], n: usize, q: Question) -> usize
-    requires { Roomy n ix.now }
-    ensures { result ≡ start_of n (last_of ix.now) q.target }
-{
-    index::start_down(ix, n, q.target)
-}
-
-// The walk down the segments of a body frame.
-fn start_body(ix: &[u16], n: usize, q: pck::Question) -> usize
-    requires { Roomy n ix.now }
-    ensures { result ≡ start_of n (last_of ix.now) q.body }
-{
-    index::start_down(ix, n, q.body)
-}
-
-// The walk up the segments of a leg's body.
-fn start_leg(ix: &[u16], n: usize, leg: Leg) -> usize
-    requires { Roomy n ix.now }
-    ensures { result ≡ start_of n (first_of ix.now) leg.body }
-{
-    index::start_up(ix, n, leg.body)
-}
-
-// The place that a step looks at after segment i: by the index, and past them all once it has ended.
-fn place_by(ix: &[u16], kept: Step, i: usize, n: usize) -> usize
-    requires { Roomy n ix.now × (i < n) }
-    ensures { result ≡ place_by kept n (above_of ix.now) i }
-{
-    match kept {
-        Step::Blocked => index::after_up(ix, i, n),
-        Step::Kept(_) => index::after_up(ix, i, n),
-        Step::Zero(_) => n,
-        Step::Refused(_) => n,
-    }
-}
+use spk::{Asked, Memory, Question};
 
 // ---- the choice
 
 // The last covering segment of the question's pair that the walk finds.
-fn find(table: &[Segment], ix: &[u16], n: usize, q: Question) -> Choice
+fn find(table: &[Segment], ix: &[u16], n: usize, q: Question) -> Option<usize>
     requires { (n ≤ length table.now) × Roomy n ix.now }
     ensures { result ≡ last_found table.now n ix.now q }
 {
-    let mut best = Choice::Nothing;
-    let mut i = start_for(ix, n, q);
-    while i < n {
-        let s = lent::segment_at(table, i);
-        best = spk::or_hit(best, q, s, i);
-        let next = index::unless_chosen(ix, best, i, n);
-        i = next;
-    }
-    best
-}
-
-// The forward choice: the remembered segment, else the last that the walk finds.
-fn choice(table: &[Segment], ix: &[u16], n: usize, memory: Memory, q: Question) -> Choice
-    requires { (n ≤ length table.now) × Roomy n ix.now }
-    ensures { result ≡ forward_found table.now n ix.now memory q }
-{
-    let c = lent::recall(table, n, memory, q);
-    let i = table::place_in(c, n);
-    if i < n {
-        return c;
-    }
-    find(table, ix, n, q)
+    table::first_where(table, index::down(ix, n, q.target), |s| q.hits(*s))
 }
 
 // ---- the chain
@@ -107,69 +47,39 @@ fn step(kernel: &[u8], table: &[Segment], ix: &[u16], n: usize, leg: Leg) -> Ste
     requires { ((n ≤ length table.now) × (n ≤ lent_limit)) × Roomy n ix.now }
     ensures { result ≡ step_by (evaluated Spk kernel.now) table.now n (first_of ix.now) (above_of ix.now) leg }
 {
-    let mut kept = Step::Blocked;
-    let mut i = start_leg(ix, n, leg);
-    while i < n {
-        let r = lent::segment_at(table, i);
-        if chain::leaves(r, leg) {
-            let s = lent::segment_at(table, i);
-            let met = chain::look(kernel, leg, kept, s, i);
-            kept = met;
-        }
-        let next = place_by(ix, kept, i, n);
-        i = next;
-    }
-    kept
+    chain::step_along(kernel, table, index::up(ix, n, leg.body), leg)
 }
 
-// A walk of at most `left` steps, by recursion over the current body.
-fn walk(kernel: &[u8], table: &[Segment], ix: &[u16], n: usize, at: Next, left: u32) -> Yielded
+// The state of a question's target about body 0: a walk through the index.
+fn to_zero(
+    kernel: &[u8],
+    table: &[Segment],
+    ix: &[u16],
+    n: usize,
+    q: Question,
+) -> Result<Given, Refusal>
     requires { ((n ≤ length table.now) × (n ≤ lent_limit)) × Roomy n ix.now }
-    ensures { result ≡ follow (λ on. walk_by (step_by (evaluated Spk kernel.now) table.now n (first_of ix.now) (above_of ix.now)) on left) at }
+    ensures { result ≡ to_zero_by (step_by (evaluated Spk kernel.now) table.now n (first_of ix.now) (above_of ix.now)) (leg_from q) }
 {
-    if chain::is_over(at, left) {
-        return chain::end_of(at);
-    }
-    let leg = chain::leg_of(at);
-    let met = step(kernel, table, ix, n, leg);
-    let next = chain::advance(leg, met);
-    let less = left - 1;
-    walk(kernel, table, ix, n, next, less)
+    let from = spk::start_of(q);
+    chain::walk(|leg| step(kernel, table, ix, n, *leg), from, Leg::STEPS)
 }
 
 // The chain: target's state to body 0, then center's, subtracted.
-fn chained(kernel: &[u8], table: &[Segment], ix: &[u16], n: usize, q: Question) -> Yielded
+fn chained(
+    kernel: &[u8],
+    table: &[Segment],
+    ix: &[u16],
+    n: usize,
+    q: Question,
+) -> Result<Given, Refusal>
     requires { ((n ≤ length table.now) × (n ≤ lent_limit)) × Roomy n ix.now }
     ensures { result ≡ chained_by (evaluated Spk kernel.now) table.now n ix.now q }
 {
-    let a = spk::start_of(q);
-    let x = walk(kernel, table, ix, n, a, Leg::STEPS);
-    if spk::is_failed(x) {
-        return x;
-    }
-    let back = q.swapped();
-    let b = spk::start_of(back);
-    let y = walk(kernel, table, ix, n, b, Leg::STEPS);
-    spk::difference(x, y)
+    spk::chain_of(|p| to_zero(kernel, table, ix, n, *p), q)
 }
 
 // ---- the question
-
-// The answer where there is no forward choice: reversed, else chained.
-fn backward(kernel: &[u8], table: &[Segment], ix: &[u16], n: usize, q: Question) -> Answer
-    requires { ((n ≤ length table.now) × (n ≤ lent_limit)) × Roomy n ix.now }
-    ensures { result ≡ answer_to (backward_by (evaluated Spk kernel.now) table.now n ix.now q) }
-{
-    let back = q.swapped();
-    let c = find(table, ix, n, back);
-    let i = table::place_in(c, n);
-    if i < n {
-        let s = lent::segment_at(table, i);
-        return spk::reversed(kernel, i, s, q);
-    }
-    let e = chained(kernel, table, ix, n, q);
-    spk::by_chain(e)
-}
 
 // A question through an index that has room for the table.
 fn through(
@@ -183,20 +93,15 @@ fn through(
     requires { Roomy n ix.now }
     ensures { result ≡ asked_through (limit_of (length table.now)) (evaluated Spk kernel.now) table.now n ix.now memory q }
 {
-    let places = lent::table_len(table);
-    if spk::is_early(places, n, q) {
-        return spk::early(places, n, memory, q);
-    }
-    let c = choice(table, ix, n, memory, q);
-    let i = table::place_in(c, n);
-    if i < n {
-        let r = lent::segment_at(table, i);
-        let kept = memory.after(i, r);
-        let s = lent::segment_at(table, i);
-        return spk::forward(kernel, kept, i, s, q);
-    }
-    let a = backward(kernel, table, ix, n, q);
-    spk::with_memory(a, memory)
+    spk::ask(
+        kernel,
+        table,
+        n,
+        memory,
+        q,
+        |p| find(table, ix, n, *p),
+        |p| chained(kernel, table, ix, n, *p),
+    )
 }
 
 // A question with a memory and an index, over the first n of the lent segments. An index without room for them is not used.
@@ -217,7 +122,7 @@ pub fn state(
     lent::state(kernel, table, n, memory, q)
 }
 
-// A question in a frame.
+// A question in a frame, the one of this number; as it stands where there is none.
 pub fn state_in(
     kernel: &[u8],
     table: &[Segment],
@@ -225,7 +130,7 @@ pub fn state_in(
     n: usize,
     memory: Memory,
     q: Question,
-    wanted: Wanted,
+    wanted: Option<i32>,
     rot: [[f64; 3]; 3],
 ) -> Asked
     ensures value { result ≡ indexed_asked_in kernel.now table.now n ix.now memory q wanted rot }
@@ -238,19 +143,11 @@ pub fn state_in(
 // ---- a PCK: the orientation of a body frame
 
 // The last covering segment of the body frame that the walk finds.
-fn find_body(table: &[Segment], ix: &[u16], n: usize, q: pck::Question) -> Choice
+fn find_body(table: &[Segment], ix: &[u16], n: usize, q: pck::Question) -> Option<usize>
     requires { (n ≤ length table.now) × Roomy n ix.now }
     ensures { result ≡ body_found table.now n ix.now q }
 {
-    let mut best = Choice::Nothing;
-    let mut i = start_body(ix, n, q);
-    while i < n {
-        let s = lent::segment_at(table, i);
-        best = pck::or_body(best, q, s, i);
-        let next = index::unless_chosen(ix, best, i, n);
-        i = next;
-    }
-    best
+    table::first_where(table, index::down(ix, n, q.body), |s| q.hits(*s))
 }
 
 // The orientation of a body frame through an index that has room for the table.
@@ -258,17 +155,7 @@ fn turn(kernel: &[u8], table: &[Segment], ix: &[u16], n: usize, q: pck::Question
     requires { Roomy n ix.now }
     ensures { result ≡ oriented_through (limit_of (length table.now)) kernel.now table.now n ix.now q }
 {
-    let places = lent::table_len(table);
-    if pck::is_early(places, n, q) {
-        return pck::early(places, n);
-    }
-    let c = find_body(table, ix, n, q);
-    let i = table::place_in(c, n);
-    if i < n {
-        let s = lent::segment_at(table, i);
-        return pck::answered_by(kernel, i, s, q);
-    }
-    pck::uncovered(q)
+    pck::orient(kernel, table, n, q, || find_body(table, ix, n, q))
 }
 
 // The orientation of a body frame with an index. An index without room for the table is not used.
@@ -296,13 +183,11 @@ fn fill_all(ix: &mut [u16], table: &[Segment], n: usize)
     ensures { ix.new ≡ filled_index table.now n ix.old }
 {
     index::clear(ix);
-    let mut i: usize = 0;
-    while i < n {
+    for i in 0..n {
         let s = lent::segment_at(table, i);
         let j = index::mirrored(n, i);
         let u = lent::segment_at(table, j);
         index::join(ix, n, i, s, u);
-        i = i + 1;
     }
 }
 
@@ -310,10 +195,7 @@ fn fill_all(ix: &mut [u16], table: &[Segment], n: usize)
 fn skips(len: usize, p: Plan) -> bool
     ensures { result ≡ not (takes len p) }
 {
-    match p {
-        Plan::Fill(n, _) => !index::room_in(len, n),
-        Plan::Refuse(_) => true,
-    }
+    p.map_or(true, |f| !index::room_in(len, f.count))
 }
 
 // The index after a plan.
@@ -334,15 +216,7 @@ fn has_rival(table: &[Segment], ix: &[u16], n: usize, a: Segment, i: usize) -> b
     requires { (n ≤ length table.now) × Roomy n ix.now }
     ensures { result ≡ others_by table.now n ix.now a i }
 {
-    let mut met = false;
-    let mut k = index::start_at(ix, n, a);
-    while k < n {
-        let b = lent::segment_at(table, k);
-        met = table::or_rival(met, a, i, b, k);
-        let next = index::unless_met(ix, met, k, n);
-        k = next;
-    }
-    met
+    table::any_rival(table, index::down(ix, n, a.target), a, i)
 }
 
 // Marks the first n segments, each compared with those that its walk visits.
@@ -350,14 +224,7 @@ fn mark_all(table: &mut [Segment], ix: &[u16], n: usize)
     requires { (n ≤ length table.old) × (Roomy n ix.now × RightIndex table.old n ix.now) }
     ensures { table.new ≡ marked_to table.old n n }
 {
-    let mut i: usize = 0;
-    while i < n {
-        let a = lent::segment_at(table, i);
-        let met = has_rival(table, ix, n, a, i);
-        let s = table::marked_by(a, met);
-        lent::put_segment(table, i, s);
-        i = i + 1;
-    }
+    lent::mark_by(table, n, |t, a, i| has_rival(t, ix, n, a, i));
 }
 
 // Marks the first n segments: through the index where there is room for them, which is then right.
@@ -390,7 +257,12 @@ pub fn carry_out(table: &mut [Segment], ix: &mut [u16], kernel: &[u8], family: F
 
 // The opening of a kernel into a lent table and its index: an accepted one fills both, the index where there is room for the segments; a refused one
 // leaves both.
-pub fn open(table: &mut [Segment], ix: &mut [u16], kernel: &[u8], family: Family) -> Found
+pub fn open(
+    table: &mut [Segment],
+    ix: &mut [u16],
+    kernel: &[u8],
+    family: Family,
+) -> Result<usize, Refusal>
     ensures value { (result ≡ found family (limit_of (length table.old)) kernel.now) × ((table.new ≡ table_after family (limit_of (length table.old)) kernel.now table.old) × (ix.new ≡ index_after family (limit_of (length table.old)) kernel.now table.old ix.old)) }
     ensures told { found_told result ≡ found_told (found family (limit_of (length table.old)) kernel.now) }
 {

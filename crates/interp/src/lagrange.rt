@@ -1,10 +1,11 @@
 // Lagrange, straight from the kernel: `lagrange_eval` of the Rust, for six numbers at once. The weights depend on the epochs alone, so they are
 // worked out once for the six.
 
-ghost use Rattle.std.specs.Prelude.{◌≡◌, ℕ, ◌+◌, ◌*◌, ◌≤◌, ◌<◌, length};
+ghost use Rattle.std.specs.Prelude.{◌≡◌, ℕ, ◌+◌, ◌*◌, ◌≤◌, ◌<◌, length, position, take};
+ghost use Rattle.std.specs.Float.Ieee.{eq};
 ghost use Rattle.bits.specs.F64.{at};
 ghost use Rattle.bits.specs.Bytes.{every};
-ghost use Rattle.interp.specs.Lagrange.{node_of, weight_of, blend_of};
+ghost use Rattle.interp.specs.Lagrange.{weight_of, blend_of};
 ghost use Rattle.interp.specs.Discrete.{six, lagrange_at};
 ghost use Rattle.interp.specs.Steps.{with_share, over_all};
 
@@ -16,27 +17,18 @@ fn epochs_at(kernel: &[u8], e: usize, c: usize) -> [f64; 32]
     ensures { (j : ℕ) → j < c → at result j ≡ every 8 kernel.now e j }
 {
     let mut xs = [0.0; 32];
-    let mut i: usize = 0;
-    while i < c {
+    for i in 0..c {
         xs[i] = bits::double_at(kernel, e + 8 * i);
-        i += 1;
     }
     xs
 }
 
-// The first of c nodes that equals x, and c if there is none.
-fn node_index(xs: &[f64; 32], c: usize, x: f64) -> usize
+// The first of c nodes that equals x.
+fn node_at(xs: &[f64; 32], c: usize, x: f64) -> Option<usize>
     requires { c ≤ 32 }
-    ensures { result ≡ node_of (at xs.now) c x }
+    ensures { result ≡ position (λ v. eq v x) (take c xs.now) }
 {
-    let mut i: usize = 0;
-    while i < c {
-        if xs[i] == x {
-            return i;
-        }
-        i += 1;
-    }
-    i
+    xs[..c].iter().position(|v| *v == x)
 }
 
 // The weight of node i among c.
@@ -46,12 +38,10 @@ fn weight(xs: &[f64; 32], c: usize, i: usize) -> f64
 {
     let own = xs[i];
     let mut w = 1.0;
-    let mut j: usize = 0;
-    while j < c {
+    for j in 0..c {
         if i != j {
-            w = w * (own - xs[j]);
+            w *= own - xs[j];
         }
-        j += 1;
     }
     1.0 / w
 }
@@ -105,21 +95,12 @@ fn blend(kernel: &[u8], q: usize, xs: &[f64; 32], c: usize, x: f64) -> State
     requires { (c ≤ 32) × (q + 48 * c ≤ length kernel.now) }
     ensures { result ≡ six (λ b. blend_of (at xs.now) (every 48 kernel.now b) c x) q }
 {
-    let mut sum = State {
-        x: 0.0,
-        y: 0.0,
-        z: 0.0,
-        vx: 0.0,
-        vy: 0.0,
-        vz: 0.0,
-    };
+    let mut sum = State::zero();
     let mut all = 0.0;
-    let mut i: usize = 0;
-    while i < c {
+    for i in 0..c {
         let share = weight(xs, c, i) / (x - xs[i]);
         sum = with_share(sum, share, state_at(kernel, q, i));
-        all = all + share;
-        i += 1;
+        all += share;
     }
     over_all(sum, all)
 }
@@ -130,9 +111,8 @@ pub fn lagrange_at(kernel: &[u8], q: usize, e: usize, c: usize, x: f64) -> State
     ensures { result ≡ lagrange_at kernel.now q e c x }
 {
     let xs = epochs_at(kernel, e, c);
-    let exact = node_index(&xs, c, x);
-    if exact < c {
-        return state_at(kernel, q, exact);
+    match node_at(&xs, c, x) {
+        Some(i) => state_at(kernel, q, i),
+        None => blend(kernel, q, &xs, c, x),
     }
-    blend(kernel, q, &xs, c, x)
 }

@@ -7,38 +7,36 @@ mod lagrange;
 ghost use Rattle.std.specs.Prelude.{◌≡◌, ◌+◌, ◌*◌, ◌-◌, ◌≤◌, ◌<◌, min, length};
 ghost use Rattle.interp.specs.Window.{left_at, window_size, window_start};
 ghost use Rattle.interp.specs.Discrete.{window_at, reach_at, type9_of, type13_of};
+ghost use Rattle.interp.specs.Steps.{records_of};
 
 use bits::Reach;
 use frame::State;
+use hermite::hermite_at;
 use lagrange::lagrange_at;
 
+// The records of a window: the bytes where their states and their epochs start, and how many there are.
+#[derive(Clone, Copy)]
+struct Records {
+    states: usize,
+    epochs: usize,
+    count: usize,
+}
+
 // How many records a window has: degree + 1, or n where there are no more.
+#[tactic(auto, unfolding(crate::specs::Window::window_size))]
 pub fn window_size(degree: u64, n: u64) -> u64
     ensures { result ≡ window_size degree n }
 {
-    if degree < n { degree + 1 } else { n }
-}
-
-// a - b, and 0 where that would be below 0.
-fn less(a: usize, b: usize) -> usize
-    ensures { result ≡ a - b }
-{
-    if b < a { a - b } else { 0 }
-}
-
-// The smaller of two numbers.
-fn smaller(a: usize, b: usize) -> usize
-    ensures { result ≡ min a b }
-{
-    if a < b { a } else { b }
+    degree.saturating_add(1).min(n)
 }
 
 // Where the window of c records around the place l starts, of n.
+#[tactic(auto, unfolding(crate::specs::Window::window_start))]
 pub fn window_start(l: usize, c: usize, n: usize) -> usize
     requires { (1 ≤ c) × (c ≤ n) }
     ensures { result ≡ window_start l c n }
 {
-    smaller(less(l, (c - 1) / 2), n - c)
+    l.saturating_sub((c - 1) / 2).min(n - c)
 }
 
 // The place that the search for et finds among n epochs from byte p on, whatever they are.
@@ -57,7 +55,7 @@ pub fn left_at(kernel: &[u8], p: usize, n: usize, et: f64) -> usize
         }
     }
     // lo is the first place whose epoch is above et, where they rise
-    less(lo, 1)
+    lo.saturating_sub(1)
 }
 
 // Where the window for et starts, in a segment of n states from byte p on and their epochs after them.
@@ -83,14 +81,28 @@ pub fn reach_at(kernel: &[u8], p: usize, n: usize, et: f64) -> Reach
     Reach::Inside
 }
 
+// The window for et in such a segment.
+#[tactic(auto, using(crate::proofs::Window::window_inside, crate::proofs::Window::size_some))]
+fn records_at(kernel: &[u8], p: usize, n: usize, degree: u64, et: f64) -> Records
+    requires { (1 ≤ n) × (p + 56 * n ≤ length kernel.now) }
+    ensures value { result ≡ records_of kernel.now p n degree et }
+    ensures inside { (1 ≤ result.count) × (result.count ≡ window_size degree n) × (result.states + 48 * result.count ≤ length kernel.now) × (result.epochs + 8 * result.count ≤ length kernel.now) }
+{
+    let first = window_at(kernel, p, n, degree, et);
+    Records {
+        states: p + 48 * first,
+        epochs: p + 48 * n + 8 * first,
+        count: window_size(degree, n as u64) as usize,
+    }
+}
+
 // A type 9 segment at et: Lagrange over the window.
 pub fn type9_at(kernel: &[u8], p: usize, n: usize, degree: u64, et: f64) -> State
     requires { (1 ≤ n) × (window_size degree n ≤ 32) × (p + 56 * n ≤ length kernel.now) }
     ensures { result ≡ type9_of kernel.now p n degree et }
 {
-    let c = window_size(degree, n as u64) as usize;
-    let w = window_at(kernel, p, n, degree, et);
-    lagrange_at(kernel, p + 48 * w, p + 48 * n + 8 * w, c, et)
+    let w = records_at(kernel, p, n, degree, et);
+    lagrange_at(kernel, w.states, w.epochs, w.count, et)
 }
 
 // A type 13 segment at et: Hermite over the window.
@@ -98,7 +110,6 @@ pub fn type13_at(kernel: &[u8], p: usize, n: usize, degree: u64, et: f64) -> Sta
     requires { (1 ≤ n) × (window_size degree n ≤ 32) × (p + 56 * n ≤ length kernel.now) }
     ensures { result ≡ type13_of kernel.now p n degree et }
 {
-    let c = window_size(degree, n as u64) as usize;
-    let w = window_at(kernel, p, n, degree, et);
-    hermite::hermite_at(kernel, p + 48 * w, p + 48 * n + 8 * w, c, et)
+    let w = records_at(kernel, p, n, degree, et);
+    hermite_at(kernel, w.states, w.epochs, w.count, et)
 }

@@ -1,4 +1,3 @@
 -- Laws that belong to no one function.
 pub mod Scanning
 pub mod TwoAnswers
-pub mod Walking

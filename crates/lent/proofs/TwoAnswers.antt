@@ -13,7 +13,6 @@ use Rattle.promised.proofs.Alike.{alike, both, equal, first_alike, first_equal}
 use Rattle.lent.specs.contracts.segment_at as m-segment-at
 use Rattle.lent.specs.contracts.table_len as m-table-len
 use Rattle.lent.specs.contracts.segment_or as m-segment-or
-use Rattle.lent.specs.contracts.recall as m-recall
 use Rattle.lent.specs.contracts.state as m-state
 use Rattle.lent.specs.contracts.state_in as m-state-in
 use Rattle.lent.specs.contracts.name as m-name
@@ -35,9 +34,6 @@ module _ {M : Type 1} {𝓤 : Ura M} (𝓛 : Logic 𝓤) (mem : Memory → SProp
 
   pub two_segment_or : Determined 𝓤 m-segment-or.ended (m-segment-or.clauses 𝓛 mem run)
   two_segment_or κs a g r r' ws ws' = equal 𝓤 refl
-
-  pub two_recall : Determined 𝓤 m-recall.ended (m-recall.clauses 𝓛 mem run)
-  two_recall κs a g r r' ws ws' = equal 𝓤 refl
 
   pub two_state : Determined 𝓤 m-state.ended (m-state.clauses 𝓛 mem run)
   two_state κs a g r r' ws ws' = first_equal 𝓤 refl

@@ -3,7 +3,9 @@
 
 #![tactic(auto)]
 
-ghost use Rattle.std.specs.Prelude.{◌≡◌, ◌≤◌, ◌<◌, length, set};
+ghost use Rattle.std.specs.Prelude.{◌≡◌, ◌≤◌, ◌<◌, ℕ, Bool, List, length, set};
+ghost use Rattle.std.specs.Borrow.{Bor};
+ghost use Rattle.segment.specs.declared.Segment.{Segment};
 ghost use Rattle.daf.specs.declared.Family.TheVariants.{Spk};
 ghost use Rattle.segment.specs.Evaluating.{evaluated};
 ghost use Rattle.table.specs.Choosing.{last_in};
@@ -16,22 +18,22 @@ ghost use Rattle.opening.specs.Steps.{Ready, filled, Fits, carried_out};
 ghost use Rattle.opening.specs.Lent.{found, table_after};
 ghost use Rattle.opening.specs.Told.{found_told};
 ghost use Rattle.chain.specs.Step.{step_from};
-ghost use Rattle.chain.specs.Walk.{follow, walk_from};
+ghost use Rattle.chain.specs.Walk.{to_zero};
 ghost use Rattle.spk.specs.Answering.{lent_asked, lent_asked_in, lent_alone};
-ghost use Rattle.spk.specs.Asking.{chained, backward, answer_to};
-ghost use Rattle.spk.specs.Choosing.{recall, forward_in, last_reversed};
+ghost use Rattle.spk.specs.Asking.{leg_from, chained};
 ghost use Rattle.spk.specs.Questions.{hits};
 ghost use Rattle.spk.specs.Told.{answer_told, asked_told};
 ghost use Rattle.pck.specs.Answering.{lent_oriented, lent_alone_oriented};
 ghost use Rattle.pck.specs.Steps.{body_hits};
 ghost use Rattle.pck.specs.Told.{oriented_told};
 
-use chain::{Leg, Next, Step, Yielded};
+use chain::{Leg, Step};
 use daf::{Cursor, Family};
-use opening::{Found, Plan};
+use frame::Given;
+use opening::Plan;
+use refusal::Refusal;
 use segment::Segment;
-use spk::{Answer, Asked, Memory, Question, Wanted};
-use table::Choice;
+use spk::{Answer, Asked, Memory, Question};
 
 // ---- what touches the slice
 
@@ -64,43 +66,11 @@ pub fn segment_or(table: &[Segment], n: usize, i: usize) -> Segment
 // ---- the choice
 
 // The last of the first n segments that is of the question's pair and covers the epoch. The scan goes down, and ends at the first that it meets.
-fn last_hit(table: &[Segment], n: usize, q: Question) -> Choice
+fn last_hit(table: &[Segment], n: usize, q: Question) -> Option<usize>
     requires { n ≤ length table.now }
     ensures { result ≡ last_in (hits q) table.now n }
 {
-    let mut best = Choice::Nothing;
-    let mut i = n;
-    while 0 < i {
-        let k = i - 1;
-        let s = segment_at(table, k);
-        best = spk::or_hit(best, q, s, k);
-        let rest = table::left_of(best, k);
-        i = rest;
-    }
-    best
-}
-
-// The remembered segment, if it is one of the first n and serves the question.
-pub fn recall(table: &[Segment], n: usize, memory: Memory, q: Question) -> Choice
-    requires { n ≤ length table.now }
-    ensures { result ≡ recall table.now n memory q }
-{
-    let i = spk::place_kept(memory, n);
-    let s = segment_or(table, n, i);
-    spk::recalled(q, s, i, n)
-}
-
-// The forward choice: the remembered segment, else the last in file order.
-fn choice(table: &[Segment], n: usize, memory: Memory, q: Question) -> Choice
-    requires { n ≤ length table.now }
-    ensures { result ≡ forward_in table.now n memory q }
-{
-    let c = recall(table, n, memory, q);
-    let i = table::place_in(c, n);
-    if i < n {
-        return c;
-    }
-    last_hit(table, n, q)
+    table::first_where(table, (0..n).rev(), |s| q.hits(*s))
 }
 
 // ---- the chain
@@ -110,99 +80,52 @@ fn step(kernel: &[u8], table: &[Segment], n: usize, leg: Leg) -> Step
     requires { (n ≤ length table.now) × (n ≤ lent_limit) }
     ensures { result ≡ step_from (evaluated Spk kernel.now) table.now n leg }
 {
-    let mut kept = Step::Blocked;
-    let mut i: usize = 0;
-    while i < n {
-        let r = segment_at(table, i);
-        if chain::leaves(r, leg) {
-            let s = segment_at(table, i);
-            let met = chain::look(kernel, leg, kept, s, i);
-            kept = met;
-        }
-        let next = kept.place_after(i, n);
-        i = next;
-    }
-    kept
+    chain::step_along(kernel, table, 0..n, leg)
 }
 
-// A walk of at most `left` steps, by recursion over the current body.
-fn walk(kernel: &[u8], table: &[Segment], n: usize, at: Next, left: u32) -> Yielded
+// The state of a question's target about body 0: a walk over all segments.
+fn to_zero(kernel: &[u8], table: &[Segment], n: usize, q: Question) -> Result<Given, Refusal>
     requires { (n ≤ length table.now) × (n ≤ lent_limit) }
-    ensures { result ≡ follow (λ on. walk_from (evaluated Spk kernel.now) table.now n on left) at }
+    ensures { result ≡ to_zero (evaluated Spk kernel.now) table.now n (leg_from q) }
 {
-    if chain::is_over(at, left) {
-        return chain::end_of(at);
-    }
-    let leg = chain::leg_of(at);
-    let met = step(kernel, table, n, leg);
-    let next = chain::advance(leg, met);
-    let less = left - 1;
-    walk(kernel, table, n, next, less)
+    let from = spk::start_of(q);
+    chain::walk(|leg| step(kernel, table, n, *leg), from, Leg::STEPS)
 }
 
 // The chain: target's state to body 0, then center's, subtracted. A refusal on the target's walk is the chain's.
-fn chained(kernel: &[u8], table: &[Segment], n: usize, q: Question) -> Yielded
+fn chained(kernel: &[u8], table: &[Segment], n: usize, q: Question) -> Result<Given, Refusal>
     requires { (n ≤ length table.now) × (n ≤ lent_limit) }
     ensures { result ≡ chained (evaluated Spk kernel.now) table.now n q }
 {
-    let a = spk::start_of(q);
-    let x = walk(kernel, table, n, a, Leg::STEPS);
-    if spk::is_failed(x) {
-        return x;
-    }
-    let back = q.swapped();
-    let b = spk::start_of(back);
-    let y = walk(kernel, table, n, b, Leg::STEPS);
-    spk::difference(x, y)
+    spk::chain_of(|p| to_zero(kernel, table, n, *p), q)
 }
 
 // ---- the question
-
-// The answer where there is no forward choice: reversed, else chained.
-fn backward(kernel: &[u8], table: &[Segment], n: usize, q: Question) -> Answer
-    requires { (n ≤ length table.now) × (n ≤ lent_limit) }
-    ensures { result ≡ answer_to (backward (evaluated Spk kernel.now) table.now n q (last_reversed table.now n q)) }
-{
-    let back = q.swapped();
-    let c = last_hit(table, n, back);
-    let i = table::place_in(c, n);
-    if i < n {
-        let s = segment_at(table, i);
-        return spk::reversed(kernel, i, s, q);
-    }
-    let e = chained(kernel, table, n, q);
-    spk::by_chain(e)
-}
 
 // A question with a memory, over the first n of the lent segments.
 pub fn state(kernel: &[u8], table: &[Segment], n: usize, memory: Memory, q: Question) -> Asked
     ensures value { result ≡ lent_asked kernel.now table.now n memory q }
     ensures told { asked_told result ≡ asked_told (lent_asked kernel.now table.now n memory q) }
 {
-    let places = table_len(table);
-    if spk::is_early(places, n, q) {
-        return spk::early(places, n, memory, q);
-    }
-    let c = choice(table, n, memory, q);
-    let i = table::place_in(c, n);
-    if i < n {
-        let r = segment_at(table, i);
-        let kept = memory.after(i, r);
-        let s = segment_at(table, i);
-        return spk::forward(kernel, kept, i, s, q);
-    }
-    let a = backward(kernel, table, n, q);
-    spk::with_memory(a, memory)
+    spk::ask(
+        kernel,
+        table,
+        n,
+        memory,
+        q,
+        |p| last_hit(table, n, *p),
+        |p| chained(kernel, table, n, *p),
+    )
 }
 
-// A question in a frame.
+// A question in a frame, the one of this number; as it stands where there is none.
 pub fn state_in(
     kernel: &[u8],
     table: &[Segment],
     n: usize,
     memory: Memory,
     q: Question,
-    wanted: Wanted,
+    wanted: Option<i32>,
     rot: [[f64; 3]; 3],
 ) -> Asked
     ensures value { result ≡ lent_asked_in kernel.now table.now n memory q wanted rot }
@@ -251,13 +174,10 @@ pub fn fill(table: &mut [Segment], kernel: &[u8], family: Family, start: Cursor,
     ensures { table.new ≡ filled family kernel.now start table.old n }
 {
     let mut c = start;
-    let mut i: usize = 0;
-    while i < n {
+    for i in 0..n {
         let s = opening::segment_here(kernel, family, c);
         put_segment(table, i, s);
-        let next = opening::cursor_after(kernel, c);
-        c = next;
-        i = i + 1;
+        c = opening::cursor_after(kernel, c);
     }
 }
 
@@ -268,16 +188,26 @@ fn has_rival(table: &[Segment], n: usize, a: Segment, i: usize) -> bool
     requires { n ≤ length table.now }
     ensures { result ≡ others table.now a i n }
 {
-    let mut met = false;
-    let mut j = n;
-    while 0 < j {
-        let k = j - 1;
-        let b = segment_at(table, k);
-        met = table::or_rival(met, a, i, b, k);
-        let rest = table::left_unless(met, k);
-        j = rest;
+    table::any_rival(table, (0..n).rev(), a, i)
+}
+
+// Marks the first n segments, by what says of a table whether its segment i, which is handed in, has a rival: each that has none. The other places stay.
+pub fn mark_by<R: Fn(&[Segment], Segment, usize) -> bool>(
+    table: &mut [Segment],
+    n: usize,
+    has_rival: R,
+)
+    requires bound { n ≤ length table.old }
+    requires tells { (t : Bor (List Segment)) (a : Segment) (i : ℕ) → length t.now ≡ length table.old → R.pre has_rival t a i }
+    requires right { (t : Bor (List Segment)) (a : Segment) (i : ℕ) (b : Bool) → t.now ≡ marked_to table.old n i → a ≡ seg t.now i → R.post has_rival t a i b → b ≡ others t.now a i n }
+    ensures { table.new ≡ marked_to table.old n n }
+{
+    for i in 0..n {
+        let a = segment_at(table, i);
+        let met = has_rival(table, a, i);
+        let s = table::marked_by(a, met);
+        put_segment(table, i, s);
     }
-    met
 }
 
 // Marks the first n segments: each that no other of its pair among them overlaps. The other places stay.
@@ -285,14 +215,7 @@ pub fn mark_all(table: &mut [Segment], n: usize)
     requires { n ≤ length table.old }
     ensures { table.new ≡ marked_to table.old n n }
 {
-    let mut i: usize = 0;
-    while i < n {
-        let a = segment_at(table, i);
-        let met = has_rival(table, n, a, i);
-        let s = table::marked_by(a, met);
-        put_segment(table, i, s);
-        i = i + 1;
-    }
+    mark_by(table, n, |t, a, i| has_rival(t, n, a, i));
 }
 
 // Carries a plan out: fills the first places, with their marks, and leaves the others; leaves all where it refuses.
@@ -308,7 +231,7 @@ pub fn carry_out(table: &mut [Segment], kernel: &[u8], family: Family, p: Plan)
 }
 
 // The opening of a kernel into a lent table: an accepted one fills the first places, with their marks, and leaves the others; a refused one leaves all.
-pub fn open(table: &mut [Segment], kernel: &[u8], family: Family) -> Found
+pub fn open(table: &mut [Segment], kernel: &[u8], family: Family) -> Result<usize, Refusal>
     ensures value { (result ≡ found family (limit_of (length table.old)) kernel.now) × (table.new ≡ table_after family (limit_of (length table.old)) kernel.now table.old) }
     ensures told { found_told result ≡ found_told (found family (limit_of (length table.old)) kernel.now) }
 {
@@ -321,20 +244,11 @@ pub fn open(table: &mut [Segment], kernel: &[u8], family: Family) -> Found
 // ---- a PCK: the orientation of a body frame
 
 // The last of the first n segments that is of the body frame and covers the epoch.
-fn last_body(table: &[Segment], n: usize, q: pck::Question) -> Choice
+fn last_body(table: &[Segment], n: usize, q: pck::Question) -> Option<usize>
     requires { n ≤ length table.now }
     ensures { result ≡ last_in (body_hits q) table.now n }
 {
-    let mut best = Choice::Nothing;
-    let mut i = n;
-    while 0 < i {
-        let k = i - 1;
-        let s = segment_at(table, k);
-        best = pck::or_body(best, q, s, k);
-        let rest = table::left_of(best, k);
-        i = rest;
-    }
-    best
+    table::first_where(table, (0..n).rev(), |s| q.hits(*s))
 }
 
 // The orientation of a body frame, over the first n of the lent segments.
@@ -342,17 +256,7 @@ pub fn orient(kernel: &[u8], table: &[Segment], n: usize, q: pck::Question) -> p
     ensures value { result ≡ lent_oriented kernel.now table.now n q }
     ensures told { oriented_told result ≡ oriented_told (lent_oriented kernel.now table.now n q) }
 {
-    let places = table_len(table);
-    if pck::is_early(places, n, q) {
-        return pck::early(places, n);
-    }
-    let c = last_body(table, n, q);
-    let i = table::place_in(c, n);
-    if i < n {
-        let s = segment_at(table, i);
-        return pck::answered_by(kernel, i, s, q);
-    }
-    pck::uncovered(q)
+    pck::orient(kernel, table, n, q, || last_body(table, n, q))
 }
 
 // A segment of a PCK evaluated alone by its number, covering or not.

@@ -16,12 +16,13 @@ use borrow.Author.Tests.{lt-ltb, le-ltb, ltb-true, ltb-false}
 use Rattle.promised.proofs.Alike.{both}
 use Rattle.io.specs.Digits.{hex_digit_ascii, last_digits, IsDigitCount}
 use Rattle.lines.specs.Text.{decimal_in, decimal_text, field_text}
-use Rattle.lines.specs.Written.{Written}
+use Rattle.lines.specs.declared.Page.{Page}
+use Rattle.lines.specs.Written.{Written, Put}
 
 -- one text after another
-pub then : {before : List ℕ} {at : ℕ} {first second : List ℕ} {middle after : List ℕ} {next last : ℕ}
+written_then : {before : List ℕ} {at : ℕ} {first second : List ℕ} {middle after : List ℕ} {next last : ℕ}
     → Written before at first middle next → Written middle next second after last → Written before at (first ++ second) after last
-then {before} {at} {first} {second} {middle} {after} {next} {last} a b = record {
+written_then {before} {at} {first} {second} {middle} {after} {next} {last} a b = record {
   ends = b.ends ∙ ap (λ (k : ℕ). k + length second) a.ends ∙ omega (arith, length-append first second);
   reads = b.reads ∙ ap (λ (l : List ℕ). l ++ second) a.reads ∙ append_assoc (take at before) first second;
   rest =
@@ -33,24 +34,60 @@ then {before} {at} {first} {second} {middle} {after} {next} {last} a b = record 
       ∙ ap (λ (k : ℕ). drop k before) (sym b.ends);
 }
 
+-- .. in a page
+pub then : {before middle after : Page} {first second : List ℕ} → Put before first middle → Put middle second after → Put before (first ++ second) after
+then a b = record { written = written_then a.written b.written; same = b.same ∙ a.same; place = b.place ∙ a.place; long = b.long ∙ a.long }
+
 -- no text
 pub written_none : (before : List ℕ) (at : ℕ) → Written before at [] before at
 written_none before at = record { ends = omega arith; reads = sym (append-nil (take at before)); rest = refl }
 
--- ---- a text that is put line by line into the buffer `before`: `left` of it is to be put at `at` into what the buffer is by now
-pub record Rest (before text : List ℕ) (at : ℕ) (by-now left : List ℕ) : Type 0 where
-  pub put : (after : List ℕ) (next : ℕ) → Written by-now at left after next → Written before 0 text after next
+pub put_none : (page : Page) → Put page [] page
+put_none page = record { written = written_none page.out.now page.at; same = refl; place = refl; long = refl }
 
-pub rest_first : (before text : List ℕ) → Rest before text 0 before text
-rest_first before text = record { put = λ after next w. w }
+-- the buffer that a page was made of, once the page is gone: the text stands in it
+pub left : {start page : Page} {text final : List ℕ}
+    → Put start text page → (start.out.ghost_name ≡ page.out.ghost_name → final ≡ page.out.now) → Written start.out.now start.at text final page.at
+left {start} {page} {text} p e = subst (λ (l : List ℕ). Written start.out.now start.at text l page.at) (sym (e (sym p.same))) p.written
 
-pub rest_line : {before text : List ℕ} {at : ℕ} {by-now left : List ℕ} (line later : List ℕ) (now' : List ℕ) (at' : ℕ)
-    → Rest before text at by-now left → left ≡ line ++ later → Written by-now at line now' at' → Rest before text at' now' later
-rest_line {at} {by-now} line later now' at' r e w =
-    record { put = λ after next v. r.put after next (subst (λ (l : List ℕ). Written by-now at l after next) (sym e) (then w v)) }
+-- ---- a text that is put line by line into the page `start`: once `left` is put into `page`, which is what the page is by now, all of it is
+pub record Rest (start : Page) (text : List ℕ) (page : Page) (left : List ℕ) : Type 0 where
+  pub put : (after : Page) → Put page left after → Put start text after
+  pub long : length page.out.now ≡ length start.out.now
 
-pub rest_last : {before text : List ℕ} {at : ℕ} {by-now left : List ℕ} → Rest before text at by-now left → left ≡ [] → Written before 0 text by-now at
-rest_last {at} {by-now} r e = r.put by-now at (subst (λ (l : List ℕ). Written by-now at l by-now at) (sym e) (written_none by-now at))
+pub rest_first : (page : Page) (text : List ℕ) → Rest page text page text
+rest_first page text = record { put = λ after p. p; long = refl }
+
+pub rest_line : {start page after : Page} {text left line later : List ℕ} → Rest start text page left → left ≡ line ++ later → Put page line after → Rest start text after later
+rest_line {page = page} r e p = record {
+  put = λ last q. r.put last (subst (λ (l : List ℕ). Put page l last) (sym e) (then p q));
+  long = p.long ∙ r.long;
+}
+
+pub rest_last : {start page : Page} {text left : List ℕ} → Rest start text page left → left ≡ [] → Put start text page
+rest_last {page = page} r e = r.put page (subst (λ (l : List ℕ). Put page l page) (sym e) (put_none page))
+
+-- .. by their numbers: `lines i s many` are so many lines from number i on, where s is known; the first is `line i s`, and `next i s` is known after it
+pub record Turns (S : Type 0) (lines : ℕ → S → ℕ → List ℕ) (line : ℕ → S → List ℕ) (next : ℕ → S → S) : Type 0 where
+  pub none : (i : ℕ) (s : S) → lines i s 0 ≡ []
+  pub more : (i : ℕ) (s : S) (many : ℕ) → lines i s (suc many) ≡ line i s ++ lines (suc i) (next i s) many
+
+-- before the first of m lines, at one of them, and after the last
+pub first_turn : {S : Type 0} (lines : ℕ → S → ℕ → List ℕ) (m : ℕ) (page : Page) (s : S) → Rest page (lines 0 s m) page (lines 0 s (m - 0))
+first_turn lines m page s =
+    let all : m ≡ m - 0 = omega arith in subst (λ (k : ℕ). Rest page (lines 0 s m) page (lines 0 s k)) all (rest_first page (lines 0 s m))
+
+pub next_turn : {S : Type 0} {lines : ℕ → S → ℕ → List ℕ} {line : ℕ → S → List ℕ} {next : ℕ → S → S} {start page after : Page} {text : List ℕ}
+    → Turns S lines line next → (m i : ℕ) (s : S) → i < m
+    → Rest start text page (lines i s (m - i)) → Put page (line i s) after → Rest start text after (lines (i + 1) (next i s) (m - (i + 1)))
+next_turn {lines = lines} {line} {next} t m i s less rest put =
+    let many : m - i ≡ suc (m - suc i) = omega arith in
+    let up : suc i ≡ i + 1 = omega arith in
+    rest_line rest (ap (lines i s) many ∙ t.more i s (m - suc i) ∙ ap (λ (k : ℕ). line i s ++ lines k (next i s) (m - k)) up) put
+
+pub last_turn : {S : Type 0} {lines : ℕ → S → ℕ → List ℕ} {line : ℕ → S → List ℕ} {next : ℕ → S → S} {start page : Page} {text : List ℕ}
+    → Turns S lines line next → (m i : ℕ) (s : S) → m ≤ i → Rest start text page (lines i s (m - i)) → Put start text page
+last_turn {lines = lines} t m i s most rest = let none : m - i ≡ 0 = omega arith in rest_last rest (ap (lines i s) none ∙ t.none i s)
 
 -- ---- any two buffers and places that it permits are equal
 pub two_texts : {before : List ℕ} {at : ℕ} {text : List ℕ} (after after' : List ℕ) (next next' : ℕ)
@@ -73,9 +110,22 @@ two_buffers {after} {after'} {next} {next'} more a b = (same.1, both same.0 refl
     same : (after ≡ after') × (next ≡ next')
     same = two_texts after after' next next' a b
 
+-- .. and any two pages
+same_page : {p q : Page} → p.out.ref_ptr ≡ q.out.ref_ptr → p.out.ghost_name ≡ q.out.ghost_name → p.out.now ≡ q.out.now → p.at ≡ q.at → p ≡ q
+same_page {p} {q} e f g h =
+    let same : ◌≡◌ {A = Page} (record { out = record { ref_ptr = p.out.ref_ptr; ghost_name = p.out.ghost_name; now = p.out.now }; at = p.at })
+    (record { out = record { ref_ptr = q.out.ref_ptr; ghost_name = q.out.ghost_name; now = q.out.now }; at = q.at }) = cc in
+    same
+
+pub two_pages : {before after after' : Page} {text : List ℕ} {r r' : Unit {0}} {W : Type 0} (more : W)
+    → Put before text after → Put before text after' → (r ≡ r') × (◌≡◌ {A = Page × W} (after, more) (after', more))
+two_pages {after = after} {after'} more a b =
+    let t : (after.out.now ≡ after'.out.now) × (after.at ≡ after'.at) = two_texts after.out.now after'.out.now after.at after'.at a.written b.written in
+    (refl, both (same_page (a.place ∙ sym b.place) (a.same ∙ sym b.same) t.0 t.1) refl)
+
 -- a field of a struct, read back from its bits
-pub told : {b a : List ℕ} {at r : ℕ} (z : ℤ) → SFits w32 z → Written b at (field_text (to_z w32 (of_z w32 z))) a r → Written b at (field_text z) a r
-told {b} {a} {at} {r} z f w = subst (λ (y : ℤ). Written b at (field_text y) a r) (to_z-of_z w32 z f) w
+pub told : {before after : Page} (z : ℤ) → SFits w32 z → Put before (field_text (to_z w32 (of_z w32 z))) after → Put before (field_text z) after
+told {before} {after} z f w = subst (λ (y : ℤ). Put before (field_text y) after) (to_z-of_z w32 z f) w
 
 -- so many digits
 pub digits_length : (b k n : ℕ) → length (last_digits b k n) ≡ k

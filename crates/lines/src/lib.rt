@@ -1,13 +1,13 @@
-// The text of the programs' lines, put into a buffer that the caller lends, from a place on. Each function answers the place after its text.
+// The text of the programs' lines, put into a page: a buffer that the caller lends, and how far it is filled.
 // The contracts give every byte; that a line is then written is beyond them, since no contract can speak of what a program writes.
 
 #![tactic(auto)]
 
-ghost use Rattle.std.specs.Prelude.{◌≡◌, ◌+◌, ◌≤◌, ◌<◌, length, nat_abs};
+ghost use Rattle.std.specs.Prelude.{◌≡◌, ◌+◌, ◌≤◌, ◌<◌, length};
 ghost use Rattle.std.specs.Float.{binary64};
 ghost use Rattle.std.specs.Float.Ieee.{to_bits};
 ghost use Rattle.lines.specs.Text.{decimal_text, signed_text, field_text, number_text, state_text, yes_text, tail_text, refusal_text, numbered_refusal_text};
-ghost use Rattle.lines.specs.Written.{Written};
+ghost use Rattle.lines.specs.Written.{Put};
 ghost use Rattle.lines.specs.Room.{decimal_room, field_room, yes_room, tail_room, refusal_room, numbered_refusal_room, text_room, capped};
 
 use frame::State;
@@ -35,138 +35,130 @@ pub fn bits_of(x: f64) -> u64
     f64::to_bits(x)
 }
 
-// How far n is from 0.
-fn magnitude(n: i64) -> u64
-    ensures { result ≡ nat_abs n }
-{
-    if n < 0 {
-        // one less than it, since the least number has no negative
-        (-1 - n) as u64 + 1
-    } else {
-        n as u64
+// A buffer that is lent, and the place up to which it is filled.
+#[derive(Drop)]
+pub struct Page<'a> {
+    pub out: &'a mut [u8],
+    pub at: usize,
+}
+
+impl<'a> Page<'a> {
+    // Puts a text.
+    pub fn put(&mut self, text: &[u8])
+        requires { self.old.at + length text.now ≤ length self.old.out.now }
+        ensures { Put self.old text.now self.new }
+    {
+        let next = self.at + text.len();
+        self.out[self.at..next].copy_from_slice(text);
+        self.at = next;
     }
-}
 
-// Puts a text at `at`.
-pub fn put(out: &mut [u8], at: usize, text: &[u8]) -> usize
-    requires { at + length text.now ≤ length out.old }
-    ensures { Written out.old at text.now out.new result }
-{
-    let mut i: usize = 0;
-    while i < text.len() {
-        out[at + i] = text[i];
-        i += 1;
+    // Puts n in decimal.
+    pub fn put_decimal(&mut self, n: u64)
+        requires { self.old.at + decimal_room ≤ length self.old.out.now }
+        ensures written { Put self.old (decimal_text n) self.new }
+        ensures upper_bound { self.new.at ≤ self.old.at + decimal_room }
+    {
+        let mut text = [0u8; DECIMAL];
+        let k = io::decimal(n, &mut text);
+        self.put(&text[..k]);
     }
-    at + i
-}
 
-// Puts n in decimal.
-pub fn put_decimal(out: &mut [u8], at: usize, n: u64) -> usize
-    requires { at + decimal_room ≤ length out.old }
-    ensures written { Written out.old at (decimal_text n) out.new result }
-    ensures upper_bound { result ≤ at + decimal_room }
-{
-    let mut text = [0u8; DECIMAL];
-    let k = io::decimal(n, &mut text);
-    put(out, at, &text[..k])
-}
-
-// Puts n in decimal, after a minus where it is negative.
-pub fn put_signed(out: &mut [u8], at: usize, n: i64) -> usize
-    requires { at + 21 ≤ length out.old }
-    ensures written { Written out.old at (signed_text n) out.new result }
-    ensures upper_bound { result ≤ at + 21 }
-{
-    if n < 0 {
-        let next = put(out, at, b"-");
-        put_decimal(out, next, magnitude(n))
-    } else {
-        put_decimal(out, at, magnitude(n))
+    // Puts n in decimal, after a minus where it is negative.
+    pub fn put_signed(&mut self, n: i64)
+        requires { self.old.at + 21 ≤ length self.old.out.now }
+        ensures written { Put self.old (signed_text n) self.new }
+        ensures upper_bound { self.new.at ≤ self.old.at + 21 }
+    {
+        if n < 0 {
+            self.put(b"-");
+        }
+        self.put_decimal(n.unsigned_abs());
     }
-}
 
-// Puts n in decimal, after a space.
-pub fn put_field(out: &mut [u8], at: usize, n: i32) -> usize
-    requires { at + field_room ≤ length out.old }
-    ensures written { Written out.old at (field_text n) out.new result }
-    ensures upper_bound { result ≤ at + field_room }
-{
-    let next = put(out, at, b" ");
-    put_signed(out, next, n as i64)
-}
-
-// Puts the bits of x in 16 hexadecimal digits, after a space.
-pub fn put_number(out: &mut [u8], at: usize, x: f64) -> usize
-    requires { at + 17 ≤ length out.old }
-    ensures written { Written out.old at (number_text x) out.new result }
-    ensures value { result ≡ at + 17 }
-{
-    let mut text = [0u8; 16];
-    let k = io::hex(bits_of(x), 16, &mut text);
-    let next = put(out, at, b" ");
-    put(out, next, &text[..k])
-}
-
-// Puts the six numbers of a state, each after a space.
-pub fn put_state(out: &mut [u8], at: usize, s: State) -> usize
-    requires { at + 102 ≤ length out.old }
-    ensures written { Written out.old at (state_text s) out.new result }
-    ensures value { result ≡ at + 102 }
-{
-    let y = put_number(out, at, s.x);
-    let z = put_number(out, y, s.y);
-    let vx = put_number(out, z, s.z);
-    let vy = put_number(out, vx, s.vx);
-    let vz = put_number(out, vy, s.vy);
-    put_number(out, vz, s.vz)
-}
-
-// Puts `yes` or `no` after a space.
-pub fn put_yes(out: &mut [u8], at: usize, yes: bool) -> usize
-    requires { at + yes_room ≤ length out.old }
-    ensures written { Written out.old at (yes_text yes) out.new result }
-    ensures upper_bound { result ≤ at + yes_room }
-{
-    if yes {
-        put(out, at, b" yes")
-    } else {
-        put(out, at, b" no")
+    // Puts n in decimal, after a space.
+    pub fn put_field(&mut self, n: i32)
+        requires { self.old.at + field_room ≤ length self.old.out.now }
+        ensures written { Put self.old (field_text n) self.new }
+        ensures upper_bound { self.new.at ≤ self.old.at + field_room }
+    {
+        self.put(b" ");
+        self.put_signed(n as i64);
     }
-}
 
-// Puts the end of an answer's line: whether a record was stretched, its six numbers and the newline.
-pub fn put_tail(out: &mut [u8], at: usize, stretched: bool, s: State) -> usize
-    requires { at + tail_room ≤ length out.old }
-    ensures written { Written out.old at (tail_text stretched s) out.new result }
-    ensures upper_bound { result ≤ at + tail_room }
-{
-    let six = put_yes(out, at, stretched);
-    let end = put_state(out, six, s);
-    put(out, end, b"\n")
-}
+    // Puts the bits of x in 16 hexadecimal digits, after a space.
+    pub fn put_number(&mut self, x: f64)
+        requires { self.old.at + 17 ≤ length self.old.out.now }
+        ensures written { Put self.old (number_text x) self.new }
+        ensures value { self.new.at ≡ self.old.at + 17 }
+    {
+        let mut text = [0u8; 16];
+        let k = io::hex(bits_of(x), 16, &mut text);
+        self.put(b" ");
+        self.put(&text[..k]);
+    }
 
-// Puts the line of a refusal.
-pub fn put_refusal(out: &mut [u8], at: usize, r: Refusal) -> usize
-    requires { at + refusal_room ≤ length out.old }
-    ensures written { Written out.old at (refusal_text r) out.new result }
-    ensures upper_bound { result ≤ at + refusal_room }
-{
-    let number = put(out, at, b"refused ");
-    let gap = put_decimal(out, number, r.number() as u64);
-    let detail = put(out, gap, b" ");
-    let end = put_signed(out, detail, r.detail());
-    put(out, end, b"\n")
-}
+    // Puts the six numbers of a state, each after a space.
+    pub fn put_state(&mut self, s: State)
+        requires { self.old.at + 102 ≤ length self.old.out.now }
+        ensures written { Put self.old (state_text s) self.new }
+        ensures value { self.new.at ≡ self.old.at + 102 }
+    {
+        self.put_number(s.x);
+        self.put_number(s.y);
+        self.put_number(s.z);
+        self.put_number(s.vx);
+        self.put_number(s.vy);
+        self.put_number(s.vz);
+    }
 
-// Puts the line of question i, which is refused: its number, then the refusal's line.
-pub fn put_numbered_refusal(out: &mut [u8], at: usize, i: usize, r: Refusal) -> usize
-    requires { at + numbered_refusal_room ≤ length out.old }
-    ensures written { Written out.old at (numbered_refusal_text i r) out.new result }
-    ensures upper_bound { result ≤ at + numbered_refusal_room }
-{
-    let gap = put_decimal(out, at, i as u64);
-    let line = put(out, gap, b" ");
-    put_refusal(out, line, r)
+    // Puts `yes` or `no` after a space.
+    pub fn put_yes(&mut self, yes: bool)
+        requires { self.old.at + yes_room ≤ length self.old.out.now }
+        ensures written { Put self.old (yes_text yes) self.new }
+        ensures upper_bound { self.new.at ≤ self.old.at + yes_room }
+    {
+        if yes {
+            self.put(b" yes");
+        } else {
+            self.put(b" no");
+        }
+    }
+
+    // Puts the end of an answer's line: whether a record was stretched, its six numbers and the newline.
+    pub fn put_tail(&mut self, stretched: bool, s: State)
+        requires { self.old.at + tail_room ≤ length self.old.out.now }
+        ensures written { Put self.old (tail_text stretched s) self.new }
+        ensures upper_bound { self.new.at ≤ self.old.at + tail_room }
+    {
+        self.put_yes(stretched);
+        self.put_state(s);
+        self.put(b"\n");
+    }
+
+    // Puts the line of a refusal.
+    pub fn put_refusal(&mut self, r: Refusal)
+        requires { self.old.at + refusal_room ≤ length self.old.out.now }
+        ensures written { Put self.old (refusal_text r) self.new }
+        ensures upper_bound { self.new.at ≤ self.old.at + refusal_room }
+    {
+        self.put(b"refused ");
+        self.put_decimal(r.number() as u64);
+        self.put(b" ");
+        self.put_signed(r.detail());
+        self.put(b"\n");
+    }
+
+    // Puts the line of question i, which is refused: its number, then the refusal's line.
+    pub fn put_numbered_refusal(&mut self, i: usize, r: Refusal)
+        requires { self.old.at + numbered_refusal_room ≤ length self.old.out.now }
+        ensures written { Put self.old (numbered_refusal_text i r) self.new }
+        ensures upper_bound { self.new.at ≤ self.old.at + numbered_refusal_room }
+    {
+        self.put_decimal(i as u64);
+        self.put(b" ");
+        self.put_refusal(r);
+    }
 }
 
 // The room of a text of n lines of at most so many bytes, or of one refusal; where that is over 64 bits, the largest number.

@@ -2,7 +2,12 @@
 
 #![tactic(auto)]
 
-use streams::Input;
+// Writes the listing of a kernel, or its refusal, at once.
+fn print(rt: &HostRuntime, kernel: &[u8]) {
+    let mut out = [0u8; listing_text::ROOM];
+    let end = listing_text::put_output(&mut out, kernel);
+    streams::write(rt, &out, end);
+}
 
 fn main(rt: HostRuntime) {
     if streams::argument_count(&rt) != 1 {
@@ -12,11 +17,5 @@ fn main(rt: HostRuntime) {
         );
         return;
     }
-    let mut kernel = [0u8; streams::ROOM];
-    let input = streams::read_standard(&rt, &mut kernel);
-    if let Input::Bytes(n) = input {
-        let mut out = [0u8; listing_text::ROOM];
-        let end = listing_text::put_output(&mut out, &kernel[..n]);
-        streams::write(&rt, &out, end);
-    }
+    streams::with_standard(&rt, |kernel| print(&rt, kernel));
 }

@@ -1,5 +1,6 @@
 -- EXACTLY WHEN a listing is refused: with 18, with a number of the opening's, and with no other; and that the output is then the line of the refusal.
 -- Assumes nothing.
+use Rattle.std.proofs.Common.{Result, Ok, Err}
 use Prim.Native.Nat.{ℕ, ◌≤◌}
 use mathlib.Core.Path.{◌≡◌, refl, sym, ap, ◌∙◌}
 use mathlib.Core.Logic.{inl, inr, ◌↔◌}
@@ -15,12 +16,8 @@ use Rattle.refusal.specs.declared.Refusal.TheVariants.{InputTooLong}
 use Rattle.refusal.specs.Numbers.{number_of}
 use Rattle.daf.specs.declared.Family.TheVariants.{Spk}
 use Rattle.table.specs.Places.{lent_limit}
-use Rattle.opening.specs.declared.Plan.{Plan}
-use Rattle.opening.specs.declared.Plan.TheVariants.{Fill, Refuse}
-use Rattle.opening.specs.declared.Found.{Found}
-use Rattle.opening.specs.declared.Found.TheVariants as found
 use Rattle.opening.specs.Lent as lent
-use Rattle.opening.specs.Steps.{plan_of, found_in, count_in}
+use Rattle.opening.specs.Steps.{Plan, plan_of, found_in, count_in}
 use Rattle.opening.proofs.Planned.{found_told_lem}
 use Rattle.opening.proofs.Exact.{found_numbers}
 use Rattle.lines.specs.Text.{refusal_text}
@@ -32,19 +29,19 @@ use Rattle.listing_text.specs.Text.{table_in, segments_from, listing_output}
 use Rattle.listing_text.proofs.Planned.{list_long, list_plan_lem}
 use Rattle.listing_text.proofs.Texts.{plan_text, output_text}
 
-one_plan : (r s : Refusal) → ◌≡◌ {A = Plan} (Refuse r) (Refuse s) → r ≡ s
+one_plan : (r s : Refusal) → ◌≡◌ {A = Plan} (Err r) (Err s) → r ≡ s
 one_plan r s e = cc
 
 -- a plan refuses exactly where the opening does
-refuses : (p : Plan) (r : Refusal) → found_in p ≡ found.Refused r → p ≡ Refuse r
-refuses (Refuse x) r h = let e : ◌≡◌ {A = Found} (found.Refused x) (found.Refused r) = h in cc
-refuses (Fill n c) r h = let z : ◌≡◌ {A = ℕ} 0 1 = cc in absurd (let y = z in omega arith)
+refuses : (p : Plan) (r : Refusal) → found_in p ≡ Err r → p ≡ Err r
+refuses (Err x) r h = let e : ◌≡◌ {A = Result ℕ Refusal} (Err x) (Err r) = h in cc
+refuses (Ok p) r h = let z : ◌≡◌ {A = ℕ} 0 1 = cc in absurd (let y = z in omega arith)
 
 module _ (k : List ℕ) where
-  planned_where : (r : Refusal) → lent.found Spk lent_limit k ≡ found.Refused r → plan_of Spk lent_limit k ≡ Refuse r
+  planned_where : (r : Refusal) → lent.found Spk lent_limit k ≡ Err r → plan_of Spk lent_limit k ≡ Err r
   planned_where r h = refuses (plan_of Spk lent_limit k) r (found_told_lem Spk lent_limit k ∙ h)
 
-  planned_only : (r : Refusal) → plan_of Spk lent_limit k ≡ Refuse r → lent.found Spk lent_limit k ≡ found.Refused r
+  planned_only : (r : Refusal) → plan_of Spk lent_limit k ≡ Err r → lent.found Spk lent_limit k ≡ Err r
   planned_only r h = sym (found_told_lem Spk lent_limit k) ∙ ap found_in h
 
   -- by the length of the kernel
@@ -52,13 +49,13 @@ module _ (k : List ℕ) where
     long : When18 k → InputTooLong ≡ r → Why r
     opening : WhenOpening k r → Why r
 
-  why : (r : Refusal) → list_plan k ≡ Refuse r → Why r
+  why : (r : Refusal) → list_plan k ≡ Err r → Why r
   why r h =
       by_test_lem (ltb input_limit (length k)) (λ e. long (ltb-true input_limit (length k) e) (one_plan InputTooLong r (list_long k e ∙ h)))
       (λ e. opening (record { short = ltb-false input_limit (length k) e; refused = planned_only r (list_plan_lem k e ∙ h) }))
 
   -- **exactly-when**, 18
-  pub list_18 : When18 k ↔ (list_plan k ≡ Refuse InputTooLong)
+  pub list_18 : When18 k ↔ (list_plan k ≡ Err InputTooLong)
   list_18 = (λ l. sym (list_long k (lt-ltb input_limit (length k) l)), λ h. only (why InputTooLong h))
     where
       only : Why InputTooLong → When18 k
@@ -66,7 +63,7 @@ module _ (k : List ℕ) where
       only (opening w) = absurd (let n = found_numbers Spk lent_limit k InputTooLong w.refused in omega arith)
 
   -- **exactly-when**, 1 to 9
-  pub list_opening : (r : Refusal) → number_of r ≤ 9 → WhenOpening k r ↔ (list_plan k ≡ Refuse r)
+  pub list_opening : (r : Refusal) → number_of r ≤ 9 → WhenOpening k r ↔ (list_plan k ≡ Err r)
   list_opening r small = (
     λ w. sym (list_plan_lem k (le-ltb input_limit (length k) w.short)) ∙ planned_where r w.refused,
     λ h. only (why r h),
@@ -77,7 +74,7 @@ module _ (k : List ℕ) where
       only (opening w) = w
 
   -- no other number
-  pub list_other : (r : Refusal) → list_plan k ≡ Refuse r → ListingNumber (number_of r)
+  pub list_other : (r : Refusal) → list_plan k ≡ Err r → ListingNumber (number_of r)
   list_other r h = only (why r h)
     where
       only : Why r → ListingNumber (number_of r)
@@ -88,7 +85,7 @@ module _ (k : List ℕ) where
   abbrev text_of : Plan → List ℕ
   text_of p = first_text p ++ segments_from (table_in k) 0 (count_in p)
 
-  refused_text : (r : Refusal) → text_of (Refuse r) ≡ refusal_text r
+  refused_text : (r : Refusal) → text_of (Err r) ≡ refusal_text r
   unfolding first_text segments_from
   refused_text r = append-nil (refusal_text r)
 
@@ -99,5 +96,5 @@ module _ (k : List ℕ) where
       (λ e. output_text k false e ∙ sym (plan_text k (table_in k) refl) ∙ ap text_of (list_plan_lem k e))
 
   -- a refusal is its line alone
-  pub list_line : (r : Refusal) → list_plan k ≡ Refuse r → listing_output k ≡ refusal_text r
+  pub list_line : (r : Refusal) → list_plan k ≡ Err r → listing_output k ≡ refusal_text r
   list_line r h = list_put ∙ ap text_of h ∙ refused_text r

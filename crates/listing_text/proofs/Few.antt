@@ -1,4 +1,5 @@
 -- How many segments a kernel has at most: 25 for each of its records of 1,024 bytes, and 4,096. Assumes nothing.
+use Rattle.std.proofs.Common.{Ok, Err}
 use Prim.Native.Nat.{ℕ, zero, suc, ◌*◌, ◌/◌, ◌≤◌, zero-le}
 use mathlib.Core.Path.{◌≡◌, sym, ap, ◌∙◌}
 use mathlib.Core.Bool.{Bool, true, false, cond, ◌||◌, true≢false}
@@ -14,14 +15,11 @@ use Rattle.daf.specs.Opening.{cases, records_of, opening, daf_of}
 use Rattle.daf.specs.Summaries.{any_over25, total}
 use Rattle.daf.specs.Walk.{next_of, count_of, past_end, among, Walk, Records, PastEnd, Twice, Endless, before, walk_from, walk, records_in}
 use Rattle.daf.specs.declared.Family.TheVariants.{Spk}
-use Rattle.daf.specs.declared.Opened.TheVariants.{Accepted as Begins, Refused as Stops}
 use Rattle.daf.proofs.Begun.{begun}
 use Rattle.table.specs.Places.{lent_limit}
 use Rattle.table.proofs.Limits.{limit_most, limit_fits}
-use Rattle.opening.specs.declared.Plan.{Plan}
-use Rattle.opening.specs.declared.Plan.TheVariants.{Fill, Refuse}
 use Rattle.opening.specs.Opening.{places_of, segment_cases, open_cases}
-use Rattle.opening.specs.Steps.{start_of, plan_of, count_in}
+use Rattle.opening.specs.Steps.{Plan, filling, start_of, plan_of, count_in}
 use Rattle.opening.proofs.Planned.{first_two, none_both, none_answer, few}
 use Rattle.streams.specs.Input.{input_limit}
 use Rattle.listing_text.specs.Rooms.{segments_in, most_segments, listing_room, output_room}
@@ -64,14 +62,14 @@ total_few k (r ∷ rs) h =
 places_few : (k : List ℕ) → None (open_cases Spk lent_limit k) → length (places_of k) ≤ segments_in (length k)
 unfolding opening
 places_few k none =
-    let b = begun Spk lent_limit k (daf_of k (fward k)) (none_answer (cases Spk lent_limit k) Stops (Begins (daf_of k (fward k))) (none_both (cases Spk lent_limit k) (segment_cases Spk k) none).0) in
+    let b = begun Spk lent_limit k (daf_of k (fward k)) (none_answer (cases Spk lent_limit k) Err (Ok (daf_of k (fward k))) (none_both (cases Spk lent_limit k) (segment_cases Spk k) none).0) in
     omega (arith, b.count, total_few k (records_of k) b.none_over, records_few k)
 
 -- no plan fills more than a kernel of that length can have
 pub plan_few : (k : List ℕ) → count_in (plan_of Spk lent_limit k) ≤ most_segments (length k)
 unfolding plan_of most_segments
 plan_few k =
-    first_two (open_cases Spk lent_limit k) Refuse (Fill (length (places_of k)) (start_of k)) Refuse (Fill (length (places_of k)) (start_of k))
+    first_two (open_cases Spk lent_limit k) Err (Ok (filling (length (places_of k)) (start_of k))) Err (Ok (filling (length (places_of k)) (start_of k)))
     (λ (p q : Plan). count_in p ≤ most_segments (length k))
     (λ r. zero-le)
     (λ none. limit_fits (segments_in (length k)) (length (places_of k)) (few Spk lent_limit k none) (places_few k none))

@@ -1,13 +1,12 @@
 -- The whole text of a listing, over what the calls of `put_text` ensure. Assumes nothing.
-use Rattle.std.proofs.Common.{◌≡◌, ℕ, ◌≤◌, ◌++◌, ◌∙◌, List, length, replicate, ap, sym, subst, arith}
+use Rattle.std.proofs.Common.{◌≡◌, ℕ, ◌≤◌, ◌++◌, ◌∙◌, List, length, replicate, ap, subst}
 use Rattle.segment.specs.declared.Segment.{Segment}
-use Rattle.daf.specs.declared.Family.{Family}
 use Rattle.daf.specs.declared.Family.TheVariants.{Spk}
 use Rattle.table.specs.Places.{lent_limit, empty_places}
 use Rattle.table.specs.Segments.{empty_segment}
-use Rattle.opening.specs.declared.Plan.{Plan}
-use Rattle.opening.specs.Steps.{count_in, plan_of, carried_out}
-use Rattle.lines.specs.Written.{Written}
+use Rattle.opening.specs.Steps.{Plan, count_in, plan_of, carried_out}
+use Rattle.lines.specs.declared.Page.{Page}
+use Rattle.lines.specs.Written.{Put}
 use Rattle.lines.proofs.Texts.{then}
 use Rattle.listing_text.specs.Steps.{first_text}
 use Rattle.listing_text.specs.Text.{listing_text, segments_from, table_in}
@@ -15,31 +14,26 @@ use Rattle.listing_text.specs.Rooms.{most_segments}
 use Rattle.listing_text.proofs.Texts.{plan_text, table_in_lem}
 use Rattle.listing_text.proofs.Few.{plan_few}
 
-module _ (k : List ℕ) {f : Family} {p : Plan} (spk : f ≡ Spk) (plan : p ≡ plan_of f lent_limit k) where
-  -- the plan of an SPK
-  own : p ≡ plan_of Spk lent_limit k
-  own = plan ∙ ap (λ (g : Family). plan_of g lent_limit k) spk
-
+module _ (k : List ℕ) {p : Plan} (plan : p ≡ plan_of Spk lent_limit k) where
   -- how many lines follow the first
   pub lines_few : {n : ℕ} → n ≡ count_in p → n ≤ most_segments (length k)
-  lines_few e = rw (e, own) (plan_few k)
+  lines_few e = rw (e, plan) (plan_few k)
 
   -- the places that were lent are those of the definition
-  table_as : {e : Segment} {segs : List Segment} → e ≡ empty_segment → segs ≡ carried_out f k p (replicate lent_limit e) → segs ≡ table_in k
+  table_as : {e : Segment} {segs : List Segment} → e ≡ empty_segment → segs ≡ carried_out Spk k p (replicate lent_limit e) → segs ≡ table_in k
   unfolding empty_places
   table_as {e} {segs} empty filled =
-      filled ∙ ap (λ (g : Family). carried_out g k p (replicate lent_limit e)) spk
-      ∙ ap (λ (q : Plan). carried_out Spk k q (replicate lent_limit e)) own
+      filled ∙ ap (λ (q : Plan). carried_out Spk k q (replicate lent_limit e)) plan
       ∙ ap (λ (s : Segment). carried_out Spk k (plan_of Spk lent_limit k) (replicate lent_limit s)) empty
       ∙ table_in_lem k
 
   -- the first line, then the others
-  pub whole_text : {e : Segment} {segs : List Segment} {n : ℕ} {before middle after : List ℕ} {at end : ℕ}
-      → e ≡ empty_segment → segs ≡ carried_out f k p (replicate lent_limit e) → n ≡ count_in p
-      → Written before 0 (first_text p) middle at → Written middle at (segments_from segs 0 n) after end → Written before 0 (listing_text k) after end
-  whole_text {segs = segs} {before = before} {after = after} {end = end} empty filled count first rest =
-      subst (λ (l : List ℕ). Written before 0 l after end)
+  pub whole_text : {e : Segment} {segs : List Segment} {n : ℕ} {before middle after : Page}
+      → e ≡ empty_segment → segs ≡ carried_out Spk k p (replicate lent_limit e) → n ≡ count_in p
+      → Put before (first_text p) middle → Put middle (segments_from segs 0 n) after → Put before (listing_text k) after
+  whole_text {segs = segs} {before = before} {after = after} empty filled count first rest =
+      subst (λ (l : List ℕ). Put before l after)
       (ap (λ (m : ℕ). first_text p ++ segments_from segs 0 m) count
-      ∙ ap (λ (q : Plan). first_text q ++ segments_from segs 0 (count_in q)) own
+      ∙ ap (λ (q : Plan). first_text q ++ segments_from segs 0 (count_in q)) plan
       ∙ plan_text k segs (table_as empty filled))
       (then first rest)

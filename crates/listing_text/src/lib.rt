@@ -1,11 +1,10 @@
 // The listing of an SPK kernel, put into a buffer that the caller lends: from the bytes of the kernel to every byte of the output.
-// `put_segments` and `put_text` touch a slice of segments: they are thin, and proved by hand as in `lent`.
+// `put_segments` and `put_text` touch a slice of segments: they are thin, as in `lent`.
 
 #![tactic(auto)]
 
 ghost use Rattle.std.specs.Prelude.{◌≡◌, ◌+◌, ◌*◌, ◌≤◌, length};
-ghost use Rattle.lines.specs.Written.{Written};
-ghost use Rattle.daf.specs.declared.Family.TheVariants.{Spk};
+ghost use Rattle.lines.specs.Written.{Written, Put};
 ghost use Rattle.table.specs.Places.{lent_limit};
 ghost use Rattle.listing_text.specs.Lines.{mark_text, head_text, span_text, segment_text, count_text};
 ghost use Rattle.listing_text.specs.Rooms.{mark_room, head_room, span_room, line_room, count_room, first_room, most_segments, listing_room, output_room};
@@ -13,6 +12,7 @@ ghost use Rattle.listing_text.specs.Steps.{first_text};
 ghost use Rattle.listing_text.specs.Text.{segments_from, listing_text, listing_output};
 
 use daf::Family;
+use lines::Page;
 use opening::Plan;
 use refusal::Refusal;
 use segment::Segment;
@@ -45,92 +45,84 @@ pub fn room(n: usize) -> usize
 }
 
 // Puts whether a segment is marked, and the newline.
-fn put_mark(out: &mut [u8], at: usize, marked: bool) -> usize
-    requires { at + mark_room ≤ length out.old }
-    ensures written { Written out.old at (mark_text marked) out.new result }
-    ensures upper_bound { result ≤ at + mark_room }
+fn put_mark(page: &mut Page, marked: bool)
+    requires { page.old.at + mark_room ≤ length page.old.out.now }
+    ensures written { Put page.old (mark_text marked) page.new }
+    ensures upper_bound { page.new.at ≤ page.old.at + mark_room }
 {
-    let end = lines::put_yes(out, at, marked);
-    lines::put(out, end, b"\n")
+    page.put_yes(marked);
+    page.put(b"\n");
 }
 
 // Puts the first part of a segment's line: target, center, frame, type.
-fn put_head(out: &mut [u8], at: usize, s: Segment) -> usize
-    requires { at + head_room ≤ length out.old }
-    ensures written { Written out.old at (head_text s) out.new result }
-    ensures upper_bound { result ≤ at + head_room }
+fn put_head(page: &mut Page, s: Segment)
+    requires { page.old.at + head_room ≤ length page.old.out.now }
+    ensures written { Put page.old (head_text s) page.new }
+    ensures upper_bound { page.new.at ≤ page.old.at + head_room }
 {
-    let center = lines::put_field(out, at, s.target);
-    let frame = lines::put_field(out, center, s.center);
-    let data_type = lines::put_field(out, frame, s.frame);
-    lines::put_field(out, data_type, s.data_type)
+    page.put_field(s.target);
+    page.put_field(s.center);
+    page.put_field(s.frame);
+    page.put_field(s.data_type);
 }
 
 // Puts the rest of it: both epochs, both addresses, whether it is marked.
-fn put_span(out: &mut [u8], at: usize, s: Segment) -> usize
-    requires { at + span_room ≤ length out.old }
-    ensures written { Written out.old at (span_text s) out.new result }
-    ensures upper_bound { result ≤ at + span_room }
+fn put_span(page: &mut Page, s: Segment)
+    requires { page.old.at + span_room ≤ length page.old.out.now }
+    ensures written { Put page.old (span_text s) page.new }
+    ensures upper_bound { page.new.at ≤ page.old.at + span_room }
 {
-    let last = lines::put_number(out, at, s.first);
-    let start = lines::put_number(out, last, s.last);
-    let end = lines::put_field(out, start, s.start);
-    let mark = lines::put_field(out, end, s.end);
-    put_mark(out, mark, s.marked)
+    page.put_number(s.first);
+    page.put_number(s.last);
+    page.put_field(s.start);
+    page.put_field(s.end);
+    put_mark(page, s.marked);
 }
 
 // Puts the line of segment i.
-fn put_segment(out: &mut [u8], at: usize, i: usize, s: Segment) -> usize
-    requires { at + line_room ≤ length out.old }
-    ensures { Written out.old at (segment_text i s) out.new result × (result ≤ at + line_room) }
+fn put_segment(page: &mut Page, i: usize, s: Segment)
+    requires { page.old.at + line_room ≤ length page.old.out.now }
+    ensures written { Put page.old (segment_text i s) page.new }
+    ensures upper_bound { page.new.at ≤ page.old.at + line_room }
 {
-    let head = lines::put_decimal(out, at, i as u64);
-    let span = put_head(out, head, s);
-    put_span(out, span, s)
+    page.put_decimal(i as u64);
+    put_head(page, s);
+    put_span(page, s);
 }
 
 // Puts how many segments there are.
-fn put_count(out: &mut [u8], at: usize, count: usize) -> usize
-    requires { at + count_room ≤ length out.old }
-    ensures written { Written out.old at (count_text count) out.new result }
-    ensures upper_bound { result ≤ at + count_room }
+fn put_count(page: &mut Page, count: usize)
+    requires { page.old.at + count_room ≤ length page.old.out.now }
+    ensures written { Put page.old (count_text count) page.new }
+    ensures upper_bound { page.new.at ≤ page.old.at + count_room }
 {
-    let number = lines::put(out, at, b"segments ");
-    let end = lines::put_decimal(out, number, count as u64);
-    lines::put(out, end, b"\n")
+    page.put(b"segments ");
+    page.put_decimal(count as u64);
+    page.put(b"\n");
 }
 
-// Puts the first line at the start of a buffer: how many segments there are, or the refusal.
-fn put_first(out: &mut [u8], p: Plan) -> usize
-    requires { first_room ≤ length out.old }
-    ensures { Written out.old 0 (first_text p) out.new result × (result ≤ first_room) }
+// Puts the first line: how many segments there are, or the refusal.
+fn put_first(page: &mut Page, p: Plan)
+    requires { page.old.at + first_room ≤ length page.old.out.now }
+    ensures written { Put page.old (first_text p) page.new }
+    ensures upper_bound { page.new.at ≤ page.old.at + first_room }
 {
     match p {
-        Plan::Fill(n, _) => put_count(out, 0, n),
-        Plan::Refuse(refusal) => lines::put_refusal(out, 0, refusal),
+        Ok(f) => put_count(page, f.count),
+        Err(refusal) => page.put_refusal(refusal),
     }
 }
 
 // Puts a line for each of the first m of the lent segments.
-fn put_segments(out: &mut [u8], at: usize, table: &[Segment], m: usize) -> usize
-    requires { (m ≤ length table.now) × (at + line_room * m ≤ length out.old) }
-    ensures { Written out.old at (segments_from table.now 0 m) out.new result × (result ≤ at + line_room * m) }
+fn put_segments(page: &mut Page, table: &[Segment], m: usize)
+    requires { (m ≤ length table.now) × (page.old.at + line_room * m ≤ length page.old.out.now) }
+    ensures written { Put page.old (segments_from table.now 0 m) page.new }
+    ensures upper_bound { page.new.at ≤ page.old.at + line_room * m }
 {
-    let mut place = at;
-    let mut i: usize = 0;
-    while i < m {
+    for i in 0..m {
         let s = lent::segment_at(table, i);
-        let next = put_segment(out, place, i, s);
-        place = next;
-        i += 1;
+        put_segment(page, i, s);
     }
-    place
-}
-
-fn family() -> Family
-    ensures { result ≡ Spk }
-{
-    Family::Spk
 }
 
 // Puts the listing of a kernel of any length, or its refusal, at the start of a buffer, with a table of 4,096 places that it lends.
@@ -139,14 +131,15 @@ pub fn put_text(out: &mut [u8], kernel: &[u8]) -> usize
     ensures written { Written out.old 0 (listing_text kernel.now) out.new result }
     ensures upper_bound { result ≤ listing_room (length kernel.now) }
 {
-    let f = family();
     let e = table::no_segment();
     let mut t = [e; Table::LENT];
-    let p = opening::plan_of(kernel, f, Table::LENT);
-    lent::carry_out(&mut t, kernel, f, p);
-    let at = put_first(out, p);
+    let p = opening::plan_of(kernel, Family::Spk, Table::LENT);
+    lent::carry_out(&mut t, kernel, Family::Spk, p);
     let n = opening::count_in(p);
-    put_segments(out, at, &t, n)
+    let mut page = Page { out, at: 0 };
+    put_first(&mut page, p);
+    put_segments(&mut page, &t, n);
+    page.at
 }
 
 // Puts what the program prints: 18 for a kernel over its limit, else the listing.
@@ -156,7 +149,9 @@ pub fn put_output(out: &mut [u8], kernel: &[u8]) -> usize
     ensures upper_bound { result ≤ output_room }
 {
     if streams::too_long(kernel.len()) {
-        lines::put_refusal(out, 0, Refusal::InputTooLong)
+        let mut page = Page { out, at: 0 };
+        page.put_refusal(Refusal::InputTooLong);
+        page.at
     } else {
         put_text(out, kernel)
     }

@@ -1,5 +1,6 @@
 -- What the plan results in: it can be filled, and what is filled and marked by it is what the definitions of `specs/Steps.antt` say.
 -- Nothing here speaks of a slice. Assumes nothing.
+use Rattle.std.proofs.Common.{Ok, Err}
 use Prim.Native.Nat.{ℕ, zero, suc, ◌+◌, ◌≤◌, ◌<◌, zero-le}
 use mathlib.Core.Path.{◌≡◌, refl, sym, ap, ap₂, ◌∙◌, subst}
 use mathlib.Core.Bool.{Bool, true, false, cond}
@@ -18,7 +19,6 @@ use Rattle.daf.specs.Opening.{cases, opening, daf_of}
 use Rattle.daf.specs.Steps.{next_cursor, remaining, Standing}
 use Rattle.daf.specs.declared.Family.{Family}
 use Rattle.daf.specs.declared.Family.TheVariants.{Spk, Pck}
-use Rattle.daf.specs.declared.Opened.TheVariants.{Accepted as Begins, Refused as Stops}
 use Rattle.daf.specs.declared.Place.{Place}
 use Rattle.daf.specs.declared.Cursor.{Cursor}
 use Rattle.daf.proofs.Begun.{begun}
@@ -27,10 +27,8 @@ use Rattle.segment.specs.declared.Segment.{Segment}
 use Rattle.table.specs.Marks.{marked_to}
 use Rattle.table.proofs.Marks.{marked_none, length_marked}
 use Rattle.opening.specs.Opening.{places_of, malformed_summary, well_formed, segment_at, segments_of, segment_cases, open_cases}
-use Rattle.opening.specs.declared.Plan.{Plan}
-use Rattle.opening.specs.declared.Plan.TheVariants.{Fill, Refuse}
 use Rattle.table.specs.Places.{limit_of}
-use Rattle.opening.specs.Steps.{start_of, plan_of, found_in, marks_for, cursor_at, Ready, filled, Fits, carried_out}
+use Rattle.opening.specs.Steps.{Plan, filling, start_of, plan_of, found_in, marks_for, cursor_at, Ready, filled, Fits, carried_out}
 use Rattle.opening.specs.Lent.{found, filled_with, marked_list, table_after}
 use Rattle.table.proofs.Limits.{limit_most}
 use Rattle.opening.proofs.Planning.{no_length, length_map, here_told, filled_length, filled_none, filled_next, cursor_none, cursor_next}
@@ -72,9 +70,9 @@ module _ (f : Family) (k : List ℕ) where
 
 -- ---- an opening that passes every test
 module _ (f : Family) (limit : ℕ) (k : List ℕ) (none : None (open_cases f limit k)) where
-  begins : opening f limit k ≡ Begins (daf_of k (fward k))
+  begins : opening f limit k ≡ Ok (daf_of k (fward k))
   unfolding opening
-  begins = none_answer (cases f limit k) Stops (Begins (daf_of k (fward k))) (none_both (cases f limit k) (segment_cases f k) none).0
+  begins = none_answer (cases f limit k) Err (Ok (daf_of k (fward k))) (none_both (cases f limit k) (segment_cases f k) none).0
 
   pub few : length (places_of k) ≤ limit
   few = let b = begun f limit k (daf_of k (fward k)) begins in let x = b.few in let y = b.count in omega arith
@@ -147,10 +145,10 @@ module _ (f : Family) (limit : ℕ) (k : List ℕ) (none : None (open_cases f li
 
 -- ---- the plan can be carried out, by whatever cases it refuses, if there is no refusal but where none of the opening's holds
 pub plan_fits : (f : Family) (limit places : ℕ) (k : List ℕ) (cs : List Case) → (None cs → None (open_cases f limit k)) → limit ≤ places
-    → Fits places k (first_of cs Refuse (Fill (length (places_of k)) (start_of k)))
+    → Fits places k (first_of cs Err (Ok (filling (length (places_of k)) (start_of k))))
 unfolding Ready
 plan_fits f limit places k cs h le =
-    first_two cs Refuse (Fill (length (places_of k)) (start_of k)) Refuse (Fill (length (places_of k)) (start_of k))
+    first_two cs Err (Ok (filling (length (places_of k)) (start_of k))) Err (Ok (filling (length (places_of k)) (start_of k)))
     (λ (y z : Plan). Fits places k y)
     (λ r. (zero-le, λ i less. absurd (omega (arith, less))))
     (λ none. (omega (arith, few f limit k (h none), le), ready f limit k (h none) []))
@@ -166,7 +164,7 @@ marks_most Pck n = zero-le
 -- ---- what it results in
 pub found_told_lem : (f : Family) (limit : ℕ) (k : List ℕ) → found_in (plan_of f limit k) ≡ found f limit k
 unfolding plan_of found
-found_told_lem f limit k = sym (first_through (open_cases f limit k) Refuse (Fill (length (places_of k)) (start_of k)) found_in)
+found_told_lem f limit k = sym (first_through (open_cases f limit k) Err (Ok (filling (length (places_of k)) (start_of k))) found_in)
 
 no_marks : (f : Family) (segs : List Segment) → marked_to segs (marks_for f zero) (marks_for f zero) ≡ segs
 no_marks Spk segs = sym (marked_none segs zero)
@@ -177,12 +175,12 @@ all_marks Spk n segs = refl
 all_marks Pck n segs = sym (marked_none segs zero)
 
 -- a plan that refuses leaves all
-pub carried_none : (f : Family) (k : List ℕ) (r : Refusal) (ys : List Segment) → carried_out f k (Refuse r) ys ≡ ys
+pub carried_none : (f : Family) (k : List ℕ) (r : Refusal) (ys : List Segment) → carried_out f k (Err r) ys ≡ ys
 carried_none f k r ys = no_marks f (filled f k _ ys zero) ∙ filled_none f k _ ys
 
 -- one that fills
 pub carried_all : (f : Family) (limit : ℕ) (k : List ℕ) → None (open_cases f limit k) → (ys : List Segment) → limit ≤ length ys
-    → carried_out f k (Fill (length (places_of k)) (start_of k)) ys ≡ marked_list f (length (places_of k)) (filled_with (segments_of f k) ys)
+    → carried_out f k (Ok (filling (length (places_of k)) (start_of k))) ys ≡ marked_list f (length (places_of k)) (filled_with (segments_of f k) ys)
 carried_all f limit k none ys h =
     all_marks f (length (places_of k)) (filled f k (start_of k) ys (length (places_of k)))
     ∙ ap (marked_list f (length (places_of k))) (full f limit k none ys (omega (arith, few f limit k none, h)))
@@ -190,7 +188,7 @@ carried_all f limit k none ys h =
 pub table_told : (f : Family) (k : List ℕ) (ys : List Segment) → carried_out f k (plan_of f (limit_of (length ys)) k) ys ≡ table_after f (limit_of (length ys)) k ys
 unfolding plan_of table_after
 table_told f k ys =
-    first_two (open_cases f (limit_of (length ys)) k) Refuse (Fill (length (places_of k)) (start_of k)) (λ r. ys) (marked_list f (length (places_of k)) (filled_with (segments_of f k) ys))
+    first_two (open_cases f (limit_of (length ys)) k) Err (Ok (filling (length (places_of k)) (start_of k))) (λ r. ys) (marked_list f (length (places_of k)) (filled_with (segments_of f k) ys))
     (λ (y : Plan) (l : List Segment). carried_out f k y ys ≡ l)
     (λ r. carried_none f k r ys)
     (λ none. carried_all f (limit_of (length ys)) k none ys (limit_most (length ys)).0)

@@ -1,5 +1,6 @@
 -- Laws of the plan of an opening: of the judging of its segments, one for each way through the loop of `plan_from`; of the plan; and that
 -- what is filled and marked by the plan is what the definitions say. Nothing here speaks of a slice. Assumes nothing.
+use Rattle.std.proofs.Common.{Result, Ok, Err}
 use Prim.Native.Nat.{ℕ, zero, suc, ◌+◌, ◌*◌, ◌≤◌, ◌<◌}
 use mathlib.Core.Path.{◌≡◌, refl, sym, ap, ap₂, ◌∙◌, subst}
 use mathlib.Core.Bool.{Bool, true, false, cond}
@@ -17,8 +18,6 @@ use Rattle.daf.specs.FileRecord.{fward}
 use Rattle.daf.specs.Opening.{cases, opening, daf_of}
 use Rattle.daf.specs.Steps.{Sound, seek_of, next_cursor, remaining, Standing}
 use Rattle.daf.specs.declared.Family.{Family}
-use Rattle.daf.specs.declared.Opened.{Opened as Begun}
-use Rattle.daf.specs.declared.Opened.TheVariants.{Accepted as Begins, Refused as Stops}
 use Rattle.daf.specs.declared.Daf.{Daf}
 use Rattle.daf.specs.declared.Place.{Place}
 use Rattle.daf.specs.declared.Cursor.{Cursor}
@@ -26,26 +25,24 @@ use Rattle.daf.proofs.Begun.{begun}
 use Rattle.daf.proofs.Cursors.{remaining_seek, remaining_next, standing_seek, standing_next, Proper, proper_seek, proper_next, proper_some, stands_here, stands_few}
 use Rattle.segment.specs.Malformed.{segment_of, judged}
 use Rattle.segment.specs.declared.Segment.{Segment}
-use Rattle.segment.specs.declared.Judged.{Judged}
-use Rattle.segment.specs.declared.Judged.TheVariants as judging
+use Rattle.table.specs.Segments.{empty_segment}
+use Rattle.std.proofs.Common.{Option, Some, None, unwrap_or}
 use Rattle.table.specs.Places.{lent_limit}
 use Rattle.opening.specs.Opening.{places_of, malformed_summary, well_formed, segment_at, segment_cases}
-use Rattle.opening.specs.declared.Plan.{Plan}
-use Rattle.opening.specs.declared.Plan.TheVariants.{Fill, Refuse}
-use Rattle.opening.specs.Steps.{start_of, planned_from, plan_of, Here, cursor_at, Ready, or_empty, here_of, filled}
+use Rattle.opening.specs.Steps.{Plan, filling, start_of, planned_from, plan_of, Here, cursor_at, Ready, here_of, filled}
 
 -- an accepted opening of the container is the one of the definition
-first_answer : (cs : List Case) (a d : Daf) → first_of cs Stops (Begins a) ≡ Begins d → a ≡ d
+first_answer : (cs : List Case) (a d : Daf) → first_of cs Err (Ok a) ≡ Ok d → a ≡ d
 first_answer [] a d e = cc
 first_answer (c ∷ cs) a d e =
     by_test_lem c.holds
-    (λ q. absurd (never c.gives (sym (ap (λ (b : Bool). cond b (Stops c.gives) (first_of cs Stops (Begins a))) q) ∙ e)))
-    (λ q. first_answer cs a d (sym (ap (λ (b : Bool). cond b (Stops c.gives) (first_of cs Stops (Begins a))) q) ∙ e))
+    (λ q. absurd (never c.gives (sym (ap (λ (b : Bool). cond b (Err c.gives) (first_of cs Err (Ok a))) q) ∙ e)))
+    (λ q. first_answer cs a d (sym (ap (λ (b : Bool). cond b (Err c.gives) (first_of cs Err (Ok a))) q) ∙ e))
   where
-    never : (r : Refusal) → Stops r ≡ Begins d → ⊥
+    never : (r : Refusal) → Err r ≡ Ok d → ⊥
     never r q = let z : ◌≡◌ {A = ℕ} 0 1 = cc in omega arith
 
-accepted_daf : (f : Family) (limit : ℕ) (k : List ℕ) (d : Daf) → opening f limit k ≡ Begins d → daf_of k (fward k) ≡ d
+accepted_daf : (f : Family) (limit : ℕ) (k : List ℕ) (d : Daf) → opening f limit k ≡ Ok d → daf_of k (fward k) ≡ d
 unfolding opening
 accepted_daf f limit k d e = first_answer (cases f limit k) (daf_of k (fward k)) d e
 
@@ -59,24 +56,24 @@ length_map g (x ∷ l) = ap suc (length_map g l)
 
 -- ---- what `judge` says
 module _ (f : Family) (k : List ℕ) where
-  bad_at : (p : Place) → judged f k (summary_of f k p) ≡ judging.Malformed → malformed_summary f k (summary_of f k p) ≡ true
+  bad_at : (p : Place) → judged f k (summary_of f k p) ≡ None → malformed_summary f k (summary_of f k p) ≡ true
   unfolding judged
-  bad_at p e = by_test_lem (malformed_summary f k (summary_of f k p)) (λ t. t) (λ u. absurd (never (sym (ap (λ (b : Bool). cond b judging.Malformed (judging.Accepted (segment_of f k (summary_of f k p)))) u) ∙ e)))
+  bad_at p e = by_test_lem (malformed_summary f k (summary_of f k p)) (λ t. t) (λ u. absurd (never (sym (ap (λ (b : Bool). cond b None (Some (segment_of f k (summary_of f k p)))) u) ∙ e)))
     where
-      never : judging.Accepted (segment_of f k (summary_of f k p)) ≡ judging.Malformed → ⊥
+      never : Some (segment_of f k (summary_of f k p)) ≡ None → ⊥
       never q = let z : ◌≡◌ {A = ℕ} 0 1 = cc in omega arith
 
-  fine_at : (p : Place) (x : Segment) → judged f k (summary_of f k p) ≡ judging.Accepted x → malformed_summary f k (summary_of f k p) ≡ false
+  fine_at : (p : Place) (x : Segment) → judged f k (summary_of f k p) ≡ Some x → malformed_summary f k (summary_of f k p) ≡ false
   unfolding judged
-  fine_at p x e = by_test_lem (malformed_summary f k (summary_of f k p)) (λ t. absurd (never (sym (ap (λ (b : Bool). cond b judging.Malformed (judging.Accepted (segment_of f k (summary_of f k p)))) t) ∙ e))) (λ u. u)
+  fine_at p x e = by_test_lem (malformed_summary f k (summary_of f k p)) (λ t. absurd (never (sym (ap (λ (b : Bool). cond b None (Some (segment_of f k (summary_of f k p)))) t) ∙ e))) (λ u. u)
     where
-      never : judging.Malformed ≡ judging.Accepted x → ⊥
+      never : None ≡ Some x → ⊥
       never q = let z : ◌≡◌ {A = ℕ} 0 1 = cc in omega arith
 
   -- a well-formed summary gives its segment
   pub here_told : (c : Cursor) → malformed_summary f k (summary_of f k (place c.rec c.index)) ≡ false → here_of f k c ≡ segment_at f k (place c.rec c.index)
   unfolding here_of judged
-  here_told c e = ap (λ (b : Bool). or_empty (cond b judging.Malformed (judging.Accepted (segment_at f k (place c.rec c.index))))) e
+  here_told c e = ap (λ (b : Bool). unwrap_or (cond b None (Some (segment_at f k (place c.rec c.index)))) empty_segment) e
 
   -- ---- where the loop of `plan_from` stands: i of n segments are judged, and what is left at the cursor is what is left of the places
   pub record Judging (n : ℕ) (i : ℕ) (c : Cursor) : Type 0 where
@@ -87,10 +84,10 @@ module _ (f : Family) (k : List ℕ) where
     pub left : n ≡ i + length (remaining k c)
     pub well : well_formed f k (places_of k) ≡ i + well_formed f k (remaining k c)
 
-  starts : (limit : ℕ) (d : Daf) → opening f limit k ≡ Begins d → remaining k (seek_of k d.first d.records) ≡ places_of k
+  starts : (limit : ℕ) (d : Daf) → opening f limit k ≡ Ok d → remaining k (seek_of k d.first d.records) ≡ places_of k
   starts limit d e = remaining_seek k d.records d.first ∙ sym (ap (places k) (begun f limit k d e).are)
 
-  pub judging_starts : (limit : ℕ) (d : Daf) (c : Cursor) → (limit ≤ lent_limit) × (opening f limit k ≡ Begins d) → c ≡ seek_of k d.first d.records → Judging d.summaries 0 c
+  pub judging_starts : (limit : ℕ) (d : Daf) (c : Cursor) → (limit ≤ lent_limit) × (opening f limit k ≡ Ok d) → c ≡ seek_of k d.first d.records → Judging d.summaries 0 c
   judging_starts limit d c h q =
       let b = begun f limit k d h.1 in
       let r : remaining k c ≡ places_of k = ap (remaining k) q ∙ starts limit d h.1 in
@@ -105,7 +102,7 @@ module _ (f : Family) (k : List ℕ) where
         well = omega arith;
       }
 
-  pub starts_sound : (limit : ℕ) (d : Daf) → opening f limit k ≡ Begins d → Sound k d.first d.records
+  pub starts_sound : (limit : ℕ) (d : Daf) → opening f limit k ≡ Ok d → Sound k d.first d.records
   starts_sound limit d e = (begun f limit k d e).sound
 
   module _ (n i : ℕ) (c : Cursor) (at : Judging n i c) (more : i < n) where
@@ -116,7 +113,7 @@ module _ (f : Family) (k : List ℕ) where
     below = let h = at.few in omega arith
 
     -- it is malformed
-    pub judged_bad : judged f k (summary_of f k (place c.rec c.index)) ≡ judging.Malformed → Refuse (Malformed i) ≡ planned_from f k
+    pub judged_bad : judged f k (summary_of f k (place c.rec c.index)) ≡ None → Err (Malformed i) ≡ planned_from f k
     unfolding planned_from well_formed
     judged_bad b =
         let one = remaining_next k c here in
@@ -127,7 +124,7 @@ module _ (f : Family) (k : List ℕ) where
         sym (rw (e, lt-ltb i (length (places_of k)) (omega arith)))
 
     -- it is well-formed, and the next one follows
-    pub judged_on : (x : Segment) (next : Cursor) → judged f k (summary_of f k (place c.rec c.index)) ≡ judging.Accepted x → next ≡ next_cursor k c → Judging n (i + 1) next
+    pub judged_on : (x : Segment) (next : Cursor) → judged f k (summary_of f k (place c.rec c.index)) ≡ Some x → next ≡ next_cursor k c → Judging n (i + 1) next
     unfolding well_formed
     judged_on x next b q =
         let one : remaining k c ≡ place c.rec c.index ∷ remaining k next = remaining_next k c here ∙ ap (λ (y : Cursor). place c.rec c.index ∷ remaining k y) (sym q) in
@@ -145,7 +142,7 @@ module _ (f : Family) (k : List ℕ) where
         }
 
   -- all are well-formed
-  pub judged_all : (n i : ℕ) (c : Cursor) (limit : ℕ) (d : Daf) (start : Cursor) → Judging n i c → n ≤ i → opening f limit k ≡ Begins d → start ≡ seek_of k d.first d.records → Fill n start ≡ planned_from f k
+  pub judged_all : (n i : ℕ) (c : Cursor) (limit : ℕ) (d : Daf) (start : Cursor) → Judging n i c → n ≤ i → opening f limit k ≡ Ok d → start ≡ seek_of k d.first d.records → Ok (filling n start) ≡ planned_from f k
   unfolding planned_from well_formed
   judged_all n i c limit d start at done e q =
       let left = at.left in
@@ -154,25 +151,25 @@ module _ (f : Family) (k : List ℕ) where
       let w : well_formed f k (remaining k c) ≡ 0 = ap (well_formed f k) none in
       let well = at.well in
       rw (le-ltb (well_formed f k (places_of k)) (length (places_of k)) (omega arith))
-      (ap₂ Fill all (q ∙ ap (λ (x : Daf). seek_of k x.first x.records) (sym (accepted_daf f limit k d e))))
+      (ap₂ (λ (x : ℕ) (y : Cursor). Ok (filling x y)) all (q ∙ ap (λ (x : Daf). seek_of k x.first x.records) (sym (accepted_daf f limit k d e))))
 
 -- ---- the plan
-after_daf : Family → List ℕ → Begun → Plan
-after_daf f k (Stops r) = Refuse r
-after_daf f k (Begins d) = planned_from f k
+after_daf : Family → List ℕ → Result Daf Refusal → Plan
+after_daf f k (Err r) = Err r
+after_daf f k (Ok d) = planned_from f k
 
 plan_by : (f : Family) (limit : ℕ) (k : List ℕ) → plan_of f limit k ≡ after_daf f k (opening f limit k)
 unfolding plan_of planned_from opening after_daf
 plan_by f limit k =
-    first_append (cases f limit k) (segment_cases f k) Refuse (Fill (length (places_of k)) (start_of k))
-    ∙ first_through (cases f limit k) Stops (Begins (daf_of k (fward k))) (after_daf f k)
+    first_append (cases f limit k) (segment_cases f k) Err (Ok (filling (length (places_of k)) (start_of k)))
+    ∙ first_through (cases f limit k) Err (Ok (daf_of k (fward k))) (after_daf f k)
 
 module _ (f : Family) (limit : ℕ) (k : List ℕ) where
-  pub plan_refused : (r : Refusal) → opening f limit k ≡ Stops r → Refuse r ≡ plan_of f limit k
+  pub plan_refused : (r : Refusal) → opening f limit k ≡ Err r → Err r ≡ plan_of f limit k
   unfolding after_daf
   plan_refused r e = sym (plan_by f limit k ∙ ap (after_daf f k) e)
 
-  pub plan_read : (d : Daf) → opening f limit k ≡ Begins d → planned_from f k ≡ plan_of f limit k
+  pub plan_read : (d : Daf) → opening f limit k ≡ Ok d → planned_from f k ≡ plan_of f limit k
   unfolding after_daf
   plan_read d e = sym (plan_by f limit k ∙ ap (after_daf f k) e)
 
@@ -208,6 +205,6 @@ here_stands k c h = let s = stands_here k c h.0 h.1 in (s.0, s.1, stands_few k c
 
 -- ---- the ways of `segment_here`
 module _ (f : Family) (k : List ℕ) (c : Cursor) where
-  pub here_as : (j : Judged) → judged f k (summary_of f k (place c.rec c.index)) ≡ j → or_empty j ≡ here_of f k c
+  pub here_as : (j : Option Segment) → judged f k (summary_of f k (place c.rec c.index)) ≡ j → unwrap_or j empty_segment ≡ here_of f k c
   unfolding here_of
-  here_as j e = ap or_empty (sym e)
+  here_as j e = ap (λ (x : Option Segment). unwrap_or x empty_segment) (sym e)

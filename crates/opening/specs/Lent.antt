@@ -1,17 +1,16 @@
 -- The opening into a lent table: what it results in, and what the table holds after it. Assumes nothing: these are definitions.
-use Rattle.std.specs.Prelude.{ℕ, List, ◌++◌, length, drop}
+use Rattle.std.specs.Prelude.{ℕ, List, ◌++◌, length, drop, Result, Ok, Err}
 use Rattle.refusal.specs.Order.{first_of}
 use Rattle.daf.specs.declared.Family.{Family}
 use Rattle.daf.specs.declared.Family.TheVariants.{Spk, Pck}
 use Rattle.segment.specs.declared.Segment.{Segment}
 use Rattle.table.specs.Marks.{marked_to}
 use Rattle.opening.specs.Opening.{places_of, segments_of, open_cases}
-use Rattle.opening.specs.declared.Found.{Found}
-use Rattle.opening.specs.declared.Found.TheVariants.{Accepted, Refused}
+use Rattle.refusal.specs.declared.Refusal.{Refusal}
 
 -- What the opening results in.
-unfoldable pub found : Family → ℕ → List ℕ → Found
-found f limit k = first_of (open_cases f limit k) Refused (Accepted (length (places_of k)))
+unfoldable pub found : Family → ℕ → List ℕ → Result ℕ Refusal
+found f limit k = first_of (open_cases f limit k) Err (Ok (length (places_of k)))
 
 -- The first places hold these segments, and the others what they held.
 abbrev pub filled_with : List Segment → List Segment → List Segment

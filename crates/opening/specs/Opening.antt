@@ -1,5 +1,5 @@
 -- The opening of a kernel: refusals 1 to 9 in their order, or its table.
-use Rattle.std.specs.Prelude.{ℕ, suc, ◌-◌, Bool, cond, List, [], ◌∷◌, ◌++◌, map, ltb, length, replicate}
+use Rattle.std.specs.Prelude.{ℕ, suc, ◌-◌, Bool, cond, List, [], ◌∷◌, ◌++◌, map, ltb, length, replicate, Ok, Err}
 use Rattle.refusal.specs.declared.Refusal.{Refusal}
 use Rattle.refusal.specs.declared.Refusal.TheVariants.{Malformed}
 use Rattle.refusal.specs.Order.{Case, case, first_of}
@@ -15,7 +15,6 @@ use Rattle.table.specs.Segments.{empty_segment}
 use Rattle.table.specs.Places.{table_limit, empty_table}
 use Rattle.table.specs.Marks.{marks}
 use Rattle.table.specs.declared.Table.{Table}
-use Rattle.opening.specs.declared.Outcome.TheVariants.{Accepted, Refused}
 use Rattle.opening.specs.declared.Opened.{Opened}
 
 -- The places of a kernel's summaries, in file order: segment number n stands at the nth.
@@ -52,10 +51,10 @@ marked_for Pck t = t
 
 -- A refused opening: a table of 0 segments.
 abbrev pub refused_opening : Refusal → Opened
-refused_opening r = record { outcome = Refused r; table = empty_table }
+refused_opening r = record { outcome = Err r; table = empty_table }
 
 abbrev pub accepted_opening : Table → Opened
-accepted_opening t = record { outcome = Accepted; table = t }
+accepted_opening t = record { outcome = Ok tt; table = t }
 
 -- Refusal 9: the first malformed segment in file order, by its number.
 abbrev pub segment_cases : Family → List ℕ → List Case

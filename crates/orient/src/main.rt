@@ -6,8 +6,6 @@
 ghost use Rattle.std.specs.Prelude.{◌≤◌, ◌+◌, length};
 ghost use Rattle.streams.specs.Input.{input_limit};
 
-use streams::Input;
-
 // What the program takes, on the error output.
 fn explain(rt: &HostRuntime) {
     streams::complain(rt, b"usage: orient KERNEL QUESTIONS\n");
@@ -30,27 +28,16 @@ fn print(rt: &HostRuntime, kernel: &[u8], asked: &[u8])
     streams::write(rt, &out, end);
 }
 
-// Reads the questions.
-fn with_questions(rt: &HostRuntime, kernel: &[u8]) {
-    let mut buf = [0u8; streams::ROOM];
-    let input = streams::read_argument(rt, 2, b"QUESTIONS", &mut buf);
-    if let Input::Bytes(n) = input {
-        print(rt, kernel, &buf[..n]);
-    }
-}
-
-// Reads the kernel.
-fn with_kernel(rt: &HostRuntime) {
-    let mut buf = [0u8; streams::ROOM];
-    let input = streams::read_argument(rt, 1, b"KERNEL", &mut buf);
-    if let Input::Bytes(n) = input {
-        with_questions(rt, &buf[..n]);
-    }
+// Reads the kernel, then the questions.
+fn orient(rt: &HostRuntime) {
+    streams::with_argument(rt, 1, b"KERNEL", |kernel| {
+        streams::with_argument(rt, 2, b"QUESTIONS", |asked| print(rt, kernel, asked))
+    });
 }
 
 fn main(rt: HostRuntime) {
     if streams::argument_count(&rt) == 3 {
-        with_kernel(&rt);
+        orient(&rt);
     } else {
         explain(&rt);
     }

@@ -1,17 +1,15 @@
 -- What the plan replies is the text of the definitions: through the index that it leaves a question is answered as without one, and its table is the
 -- opening's. Assumes nothing.
+use Rattle.std.proofs.Common.{Ok, Err}
 use mathlib.Core.Path.{◌≡◌, refl, ap, ap₂, ◌∙◌}
 use mathlib.Core.Bool.{Bool, cond}
 use mathlib.Core.List.{List, ◌++◌}
 use Prim.Native.Nat.{ℕ, zero, suc}
 use Rattle.refusal.specs.declared.Refusal.{Refusal}
 use Rattle.refusal.specs.declared.Refusal.TheVariants.{InputTooLong}
-use Rattle.daf.specs.declared.Cursor.{Cursor}
 use Rattle.daf.specs.declared.Family.TheVariants.{Pck}
 use Rattle.segment.specs.declared.Segment.{Segment}
 use Rattle.table.specs.Places.{lent_limit}
-use Rattle.opening.specs.declared.Plan.{Plan}
-use Rattle.opening.specs.declared.Plan.TheVariants.{Fill, Refuse}
 use Rattle.pck.specs.declared.Question.{Question}
 use Rattle.pck.specs.declared.Oriented.{Oriented}
 use Rattle.pck.specs.Orienting.{oriented}
@@ -26,6 +24,8 @@ use Rattle.orient_text.specs.Records.{question_size, question_mark, question_at}
 use Rattle.orient_text.specs.Lines.{oriented_text}
 use Rattle.orient_text.specs.Text.{table_in, count_in, questions_in, orientations_from, orient_text, orient_output}
 use Rattle.orient_text.specs.Steps.{lines_of, table_by, lines_by, planned_text}
+use Rattle.opening.specs.declared.Filling.{Filling}
+use Rattle.opening.specs.Steps.{Plan}
 
 -- ---- the lines go by the answers alone
 lines_same : (one other : Question → Oriented) → ((q : Question) → one q ≡ other q) → (asked : List ℕ) (i many : ℕ) → lines_of one asked i many ≡ lines_of other asked i many
@@ -40,12 +40,12 @@ lines_from kernel asked i zero = refl
 lines_from kernel asked i (suc many) = ap (λ (l : List ℕ). oriented_text i (oriented lent_limit kernel (table_in kernel) (count_in kernel) (question_at asked i)) ++ l) (lines_from kernel asked (suc i) many)
 
 -- ---- through the index that a plan left
-pub without_index : (kernel asked : List ℕ) (n : ℕ) (c : Cursor) (ix : List ℕ) → lines_by kernel asked (Fill n c) ix (questions_in asked) ≡ planned_text kernel asked (Fill n c)
+pub without_index : (kernel asked : List ℕ) (x : Filling) (ix : List ℕ) → lines_by kernel asked (Ok x) ix (questions_in asked) ≡ planned_text kernel asked (Ok x)
 unfolding planned_text
-without_index kernel asked n c ix =
-    let segs = table_by kernel (Fill n c) in
-    let after = indexed_by (Fill n c) segs ix in
-    lines_same (oriented_with lent_limit kernel segs n after) (oriented lent_limit kernel segs n) (λ q. no_index lent_limit kernel segs n q after (planned_right n c segs ix)) asked 0 (questions_in asked)
+without_index kernel asked x ix =
+    let segs = table_by kernel (Ok x) in
+    let after = indexed_by (Ok x) segs ix in
+    lines_same (oriented_with lent_limit kernel segs x.count after) (oriented lent_limit kernel segs x.count) (λ q. no_index lent_limit kernel segs x.count q after (planned_right x segs ix)) asked 0 (questions_in asked)
 
 -- ---- the text
 pub planned_text_lem : (kernel asked : List ℕ) → planned_text kernel asked (run_plan Pck lent_limit question_size question_mark kernel asked) ≡ orient_text kernel asked
@@ -62,17 +62,17 @@ output_text kernel asked b e = ap (λ (t : Bool). cond t (refusal_text InputTooL
 -- ---- the exactly_when theorems of `admission` are about the plan with 18 before it: where it refuses, the output is its refusal's line alone
 module _ (kernel asked : List ℕ) where
   abbrev printed : Plan → List ℕ
-  printed (Refuse r) = refusal_text r
-  printed (Fill n c) = orientations_from kernel asked 0 (questions_in asked)
+  printed (Err r) = refusal_text r
+  printed (Ok p) = orientations_from kernel asked 0 (questions_in asked)
 
   output_printed : orient_output kernel asked ≡ printed (plan_for Pck lent_limit question_size question_mark kernel asked)
-  unfolding orient_output orient_text
-  output_printed = plan_printed Pck lent_limit question_size question_mark kernel asked printed
+  unfolding orient_text
+  output_printed = output_text kernel asked (too_long kernel asked) refl ∙ plan_printed Pck lent_limit question_size question_mark kernel asked printed
 
   -- THEOREM: the line of the refusal that the plan gives, alone
-  pub output_refused : (r : Refusal) → plan_for Pck lent_limit question_size question_mark kernel asked ≡ Refuse r → orient_output kernel asked ≡ refusal_text r
+  pub output_refused : (r : Refusal) → plan_for Pck lent_limit question_size question_mark kernel asked ≡ Err r → orient_output kernel asked ≡ refusal_text r
   output_refused r e = output_printed ∙ ap printed e
 
   -- THEOREM: where it fills, a line for each orientation
-  pub output_answered : (n : ℕ) (c : Cursor) → plan_for Pck lent_limit question_size question_mark kernel asked ≡ Fill n c → orient_output kernel asked ≡ orientations_from kernel asked 0 (questions_in asked)
-  output_answered n c e = output_printed ∙ ap printed e
+  pub output_answered : (x : Filling) → plan_for Pck lent_limit question_size question_mark kernel asked ≡ Ok x → orient_output kernel asked ≡ orientations_from kernel asked 0 (questions_in asked)
+  output_answered x e = output_printed ∙ ap printed e

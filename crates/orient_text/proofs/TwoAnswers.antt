@@ -8,7 +8,7 @@ use types.Logic.{Logic}
 use contract.Monad.{Fun}
 use Rattle.promised.specs.Promised.{Determined}
 use Rattle.promised.proofs.Alike.{equal, first_alike}
-use Rattle.lines.proofs.Texts.{two_buffers}
+use Rattle.lines.proofs.Texts.{two_buffers, two_pages}
 use Rattle.orient_text.specs.contracts.question_at as m-question-at
 use Rattle.orient_text.specs.contracts.plan as m-plan
 use Rattle.orient_text.specs.contracts.open as m-open
@@ -28,7 +28,7 @@ module _ {M : Type 1} {𝓤 : Ura M} (𝓛 : Logic 𝓤) (mem : Memory → SProp
   two_open κs a g r r' ws ws' = equal 𝓤 refl
 
   pub two_put_oriented : Determined 𝓤 m-put-oriented.ended (m-put-oriented.clauses 𝓛 mem run)
-  two_put_oriented κs a g r r' ws ws' = first_alike 𝓤 (two_buffers ws.1)
+  two_put_oriented κs a g r r' ws ws' = first_alike 𝓤 (two_pages ws.1)
 
   pub two_room : Determined 𝓤 m-room.ended (m-room.clauses 𝓛 mem run)
   two_room κs a g r r' ws ws' = equal 𝓤 refl

@@ -1,9 +1,8 @@
 -- The line of an orientation, as ASCII codes.
-use Rattle.std.specs.Prelude.{ℕ, ◌+◌, List, ◌++◌}
+use Rattle.std.specs.Prelude.{ℕ, ◌+◌, List, ◌++◌, Result, Ok, Err}
 use Rattle.lines.specs.Text.{decimal_text, field_text, tail_text, numbered_refusal_text}
 use Rattle.lines.specs.Room.{decimal_room, field_room, tail_room}
-use Rattle.pck.specs.declared.Outcome.{Outcome}
-use Rattle.pck.specs.declared.Outcome.TheVariants.{Turned, Refused}
+use Rattle.refusal.specs.declared.Refusal.{Refusal}
 use Rattle.pck.specs.declared.Oriented.{Oriented}
 
 -- The question's number, the reference frame, whether a record was stretched, the six numbers.
@@ -11,9 +10,9 @@ unfoldable pub turned_text : ℕ → Oriented → List ℕ
 turned_text i a = decimal_text i ++ (field_text a.frame ++ tail_text a.stretched a.angles)
 
 -- By the outcome: a refused question has its number and the line of its refusal.
-abbrev pub outcome_text : ℕ → Oriented → Outcome → List ℕ
-outcome_text i a Turned = turned_text i a
-outcome_text i a (Refused r) = numbered_refusal_text i r
+abbrev pub outcome_text : ℕ → Oriented → Result (Unit {0}) Refusal → List ℕ
+outcome_text i a (Ok _) = turned_text i a
+outcome_text i a (Err r) = numbered_refusal_text i r
 
 -- The line of orientation i.
 unfoldable pub oriented_text : ℕ → Oriented → List ℕ

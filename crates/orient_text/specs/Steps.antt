@@ -1,11 +1,9 @@
 -- What the small functions of the code do; no promise of an entry point needs these. Assumes nothing: these are definitions.
-use Rattle.std.specs.Prelude.{ℕ, zero, suc, List, [], ◌++◌}
+use Rattle.std.specs.Prelude.{ℕ, zero, suc, List, [], ◌++◌, Ok, Err}
 use Rattle.daf.specs.declared.Family.TheVariants.{Pck}
 use Rattle.segment.specs.declared.Segment.{Segment}
 use Rattle.table.specs.Places.{lent_limit, empty_places}
-use Rattle.opening.specs.declared.Plan.{Plan}
-use Rattle.opening.specs.declared.Plan.TheVariants.{Fill, Refuse}
-use Rattle.opening.specs.Steps.{count_in, carried_out}
+use Rattle.opening.specs.Steps.{Plan, count_in, carried_out}
 use Rattle.pck.specs.declared.Question.{Question}
 use Rattle.pck.specs.declared.Oriented.{Oriented}
 use Rattle.pck.specs.Orienting.{oriented}
@@ -35,5 +33,5 @@ lines_by kernel asked p ix m = orientations_by lent_limit kernel (table_by kerne
 
 -- What a plan replies to a file of questions: the line of its refusal, or a line each.
 unfoldable pub planned_text : List ℕ → List ℕ → Plan → List ℕ
-planned_text kernel asked (Refuse r) = refusal_text r
-planned_text kernel asked (Fill n c) = lines_of (oriented lent_limit kernel (table_by kernel (Fill n c)) n) asked 0 (questions_in asked)
+planned_text kernel asked (Err r) = refusal_text r
+planned_text kernel asked (Ok p) = lines_of (oriented lent_limit kernel (table_by kernel (Ok p)) p.count) asked 0 (questions_in asked)

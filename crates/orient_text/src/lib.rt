@@ -4,7 +4,7 @@
 
 ghost use Rattle.std.specs.Prelude.{◌≡◌, ◌+◌, ◌*◌, ◌≤◌, ◌<◌, length};
 ghost use Rattle.daf.specs.declared.Family.TheVariants.{Pck};
-ghost use Rattle.lines.specs.Written.{Written};
+ghost use Rattle.lines.specs.Written.{Written, Put};
 ghost use Rattle.table.specs.Places.{lent_limit};
 ghost use Rattle.table.specs.Places.{limit_of};
 ghost use Rattle.opening.specs.Steps.{Fits};
@@ -16,6 +16,7 @@ ghost use Rattle.orient_text.specs.Text.{orient_text, orient_output, orient_room
 ghost use Rattle.orient_text.specs.Steps.{orientations_by, lines_by, planned_text};
 
 use daf::Family;
+use lines::Page;
 use opening::{Opened, Plan};
 use pck::{Oriented, Question};
 use records::Mark;
@@ -67,107 +68,78 @@ pub fn open(kernel: &[u8], asked: &[u8]) -> Opened
 }
 
 // Puts the line of an orientation that is no refusal.
-fn put_turned(out: &mut [u8], at: usize, i: usize, a: Oriented) -> usize
-    requires { at + oriented_room ≤ length out.old }
-    ensures written { Written out.old at (turned_text i a) out.new result }
-    ensures upper_bound { result ≤ at + oriented_room }
+fn put_turned(page: &mut Page, i: usize, a: Oriented)
+    requires { page.old.at + oriented_room ≤ length page.old.out.now }
+    ensures written { Put page.old (turned_text i a) page.new }
+    ensures upper_bound { page.new.at ≤ page.old.at + oriented_room }
 {
-    let frame = lines::put_decimal(out, at, i as u64);
-    let tail = lines::put_field(out, frame, a.frame);
-    let angles = a.angles;
-    lines::put_tail(out, tail, a.stretched, angles)
+    page.put_decimal(i as u64);
+    page.put_field(a.frame);
+    page.put_tail(a.stretched, a.angles);
 }
 
 // Puts the line of orientation i.
-pub fn put_oriented(out: &mut [u8], at: usize, i: usize, a: Oriented) -> usize
-    requires { at + oriented_room ≤ length out.old }
-    ensures written { Written out.old at (oriented_text i a) out.new result }
-    ensures upper_bound { result ≤ at + oriented_room }
+pub fn put_oriented(page: &mut Page, i: usize, a: Oriented)
+    requires { page.old.at + oriented_room ≤ length page.old.out.now }
+    ensures written { Put page.old (oriented_text i a) page.new }
+    ensures upper_bound { page.new.at ≤ page.old.at + oriented_room }
 {
     let outcome = a.outcome;
     match outcome {
-        pck::Outcome::Turned => put_turned(out, at, i, a),
-        pck::Outcome::Refused(refusal) => lines::put_numbered_refusal(out, at, i, refusal),
+        Ok(()) => put_turned(page, i, a),
+        Err(refusal) => page.put_numbered_refusal(i, refusal),
     }
 }
 
 // Writes the line of orientation i to standard output. No contract can speak of what is written.
 pub fn write_oriented(rt: &HostRuntime, i: usize, a: Oriented) -> bool {
     let mut line = [0u8; LINE];
-    let n = put_oriented(&mut line, 0, i, a);
+    let mut page = Page {
+        out: &mut line,
+        at: 0,
+    };
+    put_oriented(&mut page, i, a);
+    let n = page.at;
     streams::write(rt, &line, n)
-}
-
-// Puts the line of question i.
-fn put_next(out: &mut [u8], at: usize, i: usize, a: Oriented) -> usize
-    requires { at + oriented_room ≤ length out.old }
-    ensures { Written out.old at (oriented_text i a) out.new result × (result ≤ at + oriented_room) }
-{
-    put_oriented(out, at, i, a)
 }
 
 // Puts a line for each of the first m questions, over the first n of the lent segments, through their index.
 fn put_orientations(
-    out: &mut [u8],
+    page: &mut Page,
     kernel: &[u8],
     table: &[Segment],
     ix: &[u16],
     asked: &[u8],
     n: usize,
     m: usize,
-) -> usize
-    requires { (question_size * m ≤ length asked.now) × (oriented_room * m ≤ length out.old) }
-    ensures { Written out.old 0 (orientations_by (limit_of (length table.now)) kernel.now table.now n ix.now asked.now 0 m) out.new result × (result ≤ oriented_room * m) }
+)
+    requires { (question_size * m ≤ length asked.now) × (page.old.at + oriented_room * m ≤ length page.old.out.now) }
+    ensures written { Put page.old (orientations_by (limit_of (length table.now)) kernel.now table.now n ix.now asked.now 0 m) page.new }
+    ensures upper_bound { page.new.at ≤ page.old.at + oriented_room * m }
 {
-    let mut at: usize = 0;
-    let mut i: usize = 0;
-    while i < m {
+    for i in 0..m {
         let q = question_at(asked, i);
         let a = indexed::orient(kernel, table, ix, n, q);
-        at = put_next(out, at, i, a);
-        i = i + 1;
+        put_oriented(page, i, a);
     }
-    at
 }
 
-fn family() -> Family
-    ensures { result ≡ Pck }
-{
-    Family::Pck
-}
-
-// Puts the lines of the first m questions, with a table of 4,096 places that it lends, through the index that it fills.
-fn put_filled(
-    out: &mut [u8],
-    kernel: &[u8],
-    asked: &[u8],
-    ix: &mut [u16],
-    p: Plan,
-    m: usize,
-) -> usize
-    requires { Fits lent_limit kernel.now p × ((question_size * m ≤ length asked.now) × (oriented_room * m ≤ length out.old)) }
-    ensures { Written out.old 0 (lines_by kernel.now asked.now p ix.old m) out.new result × (result ≤ oriented_room * m) }
-{
-    let f = family();
-    let e = table::no_segment();
-    let mut t = [e; Table::LENT];
-    indexed::carry_out(&mut t, ix, kernel, f, p);
-    let n = opening::count_in(p);
-    put_orientations(out, kernel, &t, ix, asked, n, m)
-}
-
-// Puts what a plan replies to a file of questions: its refusal, or a line each.
-fn put_planned(out: &mut [u8], kernel: &[u8], asked: &[u8], p: Plan) -> usize
-    requires { Fits lent_limit kernel.now p × (orient_room (length asked.now) ≤ length out.old) }
-    ensures written { Written out.old 0 (planned_text kernel.now asked.now p) out.new result }
-    ensures upper_bound { result ≤ orient_room (length asked.now) }
+// Puts what a plan replies to a file of questions: its refusal, or a line each, with a table of 4,096 places and an index that it lends.
+fn put_planned(page: &mut Page, kernel: &[u8], asked: &[u8], p: Plan)
+    requires { Fits lent_limit kernel.now p × (page.old.at + orient_room (length asked.now) ≤ length page.old.out.now) }
+    ensures written { Put page.old (planned_text kernel.now asked.now p) page.new }
+    ensures upper_bound { page.new.at ≤ page.old.at + orient_room (length asked.now) }
 {
     match p {
-        Plan::Refuse(refusal) => lines::put_refusal(out, 0, refusal),
-        Plan::Fill(_, _) => {
+        Err(refusal) => page.put_refusal(refusal),
+        Ok(_) => {
             let mut ix = [0u16; INDEX];
+            let e = table::no_segment();
+            let mut t = [e; Table::LENT];
+            indexed::carry_out(&mut t, &mut ix, kernel, Family::Pck, p);
+            let n = opening::count_in(p);
             let m = asked.len() / SIZE;
-            put_filled(out, kernel, asked, &mut ix, p, m)
+            put_orientations(page, kernel, &t, &ix, asked, n, m);
         }
     }
 }
@@ -185,8 +157,10 @@ pub fn put_text(out: &mut [u8], kernel: &[u8], asked: &[u8]) -> usize
     ensures written { Written out.old 0 (orient_text kernel.now asked.now) out.new result }
     ensures upper_bound { result ≤ orient_room (length asked.now) }
 {
+    let mut page = Page { out, at: 0 };
     let p = plan(kernel, asked);
-    put_planned(out, kernel, asked, p)
+    put_planned(&mut page, kernel, asked, p);
+    page.at
 }
 
 // Puts what the program prints: 18 where a file is over its limit, else that reply.
@@ -196,7 +170,9 @@ pub fn put_output(out: &mut [u8], kernel: &[u8], asked: &[u8]) -> usize
     ensures upper_bound { result ≤ orient_room (length asked.now) }
 {
     if admission::over(kernel, asked) {
-        lines::put_refusal(out, 0, Refusal::InputTooLong)
+        let mut page = Page { out, at: 0 };
+        page.put_refusal(Refusal::InputTooLong);
+        page.at
     } else {
         put_text(out, kernel, asked)
     }

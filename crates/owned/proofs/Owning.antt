@@ -1,4 +1,5 @@
 -- The opening by value is the plan, carried out in 256 empty places. Assumes nothing.
+use Rattle.std.proofs.Common.{Ok, Err}
 use Prim.Native.Nat.{ℕ, zero, suc, ◌-◌}
 use mathlib.Core.Path.{◌≡◌, sym, ap, ◌∙◌}
 use mathlib.Core.List.{List, ◌++◌}
@@ -12,9 +13,7 @@ use Rattle.table.specs.Segments.{empty_segment}
 use Rattle.table.specs.Places.{table_limit, empty_places}
 use Rattle.opening.specs.declared.Opened.{Opened}
 use Rattle.opening.specs.Opening.{places_of, segment_at, segments_of, table_of, marked_for, refused_opening, accepted_opening, opened, open_cases}
-use Rattle.opening.specs.declared.Plan.{Plan}
-use Rattle.opening.specs.declared.Plan.TheVariants.{Fill, Refuse}
-use Rattle.opening.specs.Steps.{start_of, plan_of, carried_out}
+use Rattle.opening.specs.Steps.{Plan, filling, start_of, plan_of, carried_out}
 use Rattle.opening.specs.Lent.{filled_with, marked_list}
 use Rattle.opening.proofs.Planning.{length_map}
 use Rattle.opening.proofs.Planned.{first_two, carried_none, carried_all}
@@ -47,14 +46,14 @@ marked_table Spk n vs e = ap (λ (m : ℕ). accepted_opening (record { segments 
 marked_table Pck n vs e = ap (λ (m : ℕ). accepted_opening (record { segments = vs ++ replicate (table_limit - length vs) empty_segment; count = m })) (sym e)
 
 -- by whatever cases it refuses, if there is no refusal but where none of the opening's holds
-pub opened_of : (f : Family) (k : List ℕ) (cs : List Case) → (None cs → None (open_cases f table_limit k)) → let p = first_of cs Refuse (Fill (length (places_of k)) (start_of k)) in
+pub opened_of : (f : Family) (k : List ℕ) (cs : List Case) → (None cs → None (open_cases f table_limit k)) → let p = first_of cs Err (Ok (filling (length (places_of k)) (start_of k))) in
     opened_by p (carried_out f k p (empty_places table_limit)) ≡ first_of cs refused_opening (accepted_opening (marked_for f (table_of (segments_of f k))))
 unfolding empty_places
 opened_of f k cs h =
-    first_two cs Refuse (Fill (length (places_of k)) (start_of k)) refused_opening (accepted_opening (marked_for f (table_of (segments_of f k))))
+    first_two cs Err (Ok (filling (length (places_of k)) (start_of k))) refused_opening (accepted_opening (marked_for f (table_of (segments_of f k))))
     (λ (y : Plan) (o : Opened). opened_by y (carried_out f k y (empty_places table_limit)) ≡ o)
-    (λ r. ap (opened_by (Refuse r)) (carried_none f k r (empty_places table_limit)))
-    (λ none. ap (opened_by (Fill (length (places_of k)) (start_of k))) (carried_all f table_limit k (h none) (empty_places table_limit) (let l = length-replicate table_limit empty_segment in omega arith)
+    (λ r. ap (opened_by (Err r)) (carried_none f k r (empty_places table_limit)))
+    (λ none. ap (opened_by (Ok (filling (length (places_of k)) (start_of k)))) (carried_all f table_limit k (h none) (empty_places table_limit) (let l = length-replicate table_limit empty_segment in omega arith)
     ∙ ap (marked_list f (length (places_of k))) (filled_empty (segments_of f k)))
     ∙ marked_table f (length (places_of k)) (segments_of f k) (length_map (segment_at f k) (places_of k)))
 

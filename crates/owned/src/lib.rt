@@ -16,9 +16,9 @@ ghost use Rattle.pck.specs.Told.{oriented_told};
 ghost use Rattle.owned.specs.Owned.{opened_by, opened_spk};
 
 use daf::Family;
-use opening::{Opened, Outcome, Plan};
+use opening::{Opened, Plan};
 use segment::Segment;
-use spk::{Answer, Asked, Memory, Question, Wanted};
+use spk::{Answer, Asked, Memory, Question};
 use table::Table;
 
 // An SPK opened: what the opening results in, and the memory that the first question takes.
@@ -28,38 +28,15 @@ pub struct OpenedSpk {
     pub memory: Memory,
 }
 
-// ---- a table taken apart and put together
-
-fn segments_of(t: Table) -> [Segment; Table::PLACES]
-    ensures { result ≡ t.segments }
-{
-    t.segments
-}
-
-fn count_of(t: Table) -> usize
-    ensures { result ≡ t.count }
-{
-    t.count
-}
-
 // The opening of a plan that was carried out in these places.
 fn opened_by(p: Plan, segments: [Segment; Table::PLACES]) -> Opened
     ensures { result ≡ opened_by p segments }
 {
-    match p {
-        Plan::Fill(n, _) => Opened {
-            outcome: Outcome::Accepted,
-            table: Table {
-                segments: segments,
-                count: n,
-            },
-        },
-        Plan::Refuse(refusal) => Opened {
-            outcome: Outcome::Refused(refusal),
-            table: Table {
-                segments: segments,
-                count: 0,
-            },
+    Opened {
+        outcome: p.map(|_| ()),
+        table: Table {
+            segments,
+            count: opening::count_in(p),
         },
     }
 }
@@ -94,7 +71,7 @@ pub fn open_spk(kernel: &[u8]) -> OpenedSpk
     let opened = open(kernel, Family::Spk);
     OpenedSpk {
         opened: opened,
-        memory: Memory::Blank,
+        memory: None,
     }
 }
 
@@ -103,26 +80,22 @@ pub fn state(kernel: &[u8], table: Table, memory: Memory, q: Question) -> Asked
     ensures value { result ≡ owned_asked kernel.now table memory q }
     ensures told { asked_told result ≡ asked_told (owned_asked kernel.now table memory q) }
 {
-    let t = segments_of(table);
-    let n = count_of(table);
-    lent::state(kernel, &t, n, memory, q)
+    lent::state(kernel, &table.segments, table.count, memory, q)
 }
 
-// A question in a frame.
+// A question in a frame, the one of this number; as it stands where there is none.
 pub fn state_in(
     kernel: &[u8],
     table: Table,
     memory: Memory,
     q: Question,
-    wanted: Wanted,
+    wanted: Option<i32>,
     rot: [[f64; 3]; 3],
 ) -> Asked
     ensures value { result ≡ owned_asked_in kernel.now table memory q wanted rot }
     ensures told { asked_told result ≡ asked_told (owned_asked_in kernel.now table memory q wanted rot) }
 {
-    let t = segments_of(table);
-    let n = count_of(table);
-    lent::state_in(kernel, &t, n, memory, q, wanted, rot)
+    lent::state_in(kernel, &table.segments, table.count, memory, q, wanted, rot)
 }
 
 // A segment evaluated alone by its number, covering or not.
@@ -130,9 +103,7 @@ pub fn alone(kernel: &[u8], table: Table, number: usize, et: f64) -> Answer
     ensures value { result ≡ owned_alone kernel.now table number et }
     ensures told { answer_told result ≡ answer_told (owned_alone kernel.now table number et) }
 {
-    let t = segments_of(table);
-    let n = count_of(table);
-    lent::alone(kernel, &t, n, number, et)
+    lent::alone(kernel, &table.segments, table.count, number, et)
 }
 
 // The orientation of a body frame.
@@ -140,9 +111,7 @@ pub fn orient(kernel: &[u8], table: Table, q: pck::Question) -> pck::Oriented
     ensures value { result ≡ owned_oriented kernel.now table q }
     ensures told { oriented_told result ≡ oriented_told (owned_oriented kernel.now table q) }
 {
-    let t = segments_of(table);
-    let n = count_of(table);
-    lent::orient(kernel, &t, n, q)
+    lent::orient(kernel, &table.segments, table.count, q)
 }
 
 // A segment of a PCK evaluated alone by its number, covering or not.
@@ -150,16 +119,12 @@ pub fn orient_alone(kernel: &[u8], table: Table, number: usize, et: f64) -> pck:
     ensures value { result ≡ owned_alone_oriented kernel.now table number et }
     ensures told { oriented_told result ≡ oriented_told (owned_alone_oriented kernel.now table number et) }
 {
-    let t = segments_of(table);
-    let n = count_of(table);
-    lent::orient_alone(kernel, &t, n, number, et)
+    lent::orient_alone(kernel, &table.segments, table.count, number, et)
 }
 
 // The name of a segment by its number: that part of the lent kernel itself, empty where there is no such segment.
 pub fn name(kernel: &[u8], table: Table, number: usize) -> &[u8]
     ensures { result.now ≡ name_at table_limit kernel.now table.segments table.count number }
 {
-    let t = segments_of(table);
-    let n = count_of(table);
-    lent::name(kernel, &t, n, number)
+    lent::name(kernel, &table.segments, table.count, number)
 }

@@ -7,13 +7,16 @@ use lib.Dec.{ltb, leb}
 use lib.Ieee.{Float, is_nan}
 use borrow.Author.Tests.{lt-ltb, le-ltb, ltb-true, ltb-false, le-leb, lt-leb, leb-true, leb-false}
 use Rattle.bits.proofs.Tests.{by_test_lem}
+use Rattle.refusal.specs.declared.Refusal.{Refusal}
 use Rattle.refusal.specs.declared.Refusal.TheVariants.{TableUnfit, EpochNan, NoSegment}
 use Rattle.refusal.specs.Order.{case, first_of}
 use Rattle.daf.specs.declared.Family.TheVariants.{Pck}
 use Rattle.segment.specs.declared.Segment.{Segment}
 use Rattle.segment.specs.Evaluating.{evaluated}
 use Rattle.table.specs.Segments.{seg}
-use Rattle.table.specs.Steps.{counted, seg_or}
+use Rattle.std.proofs.Common.{Result, Ok, Err}
+use Rattle.table.specs.Steps.{ready, counted, seg_or}
+use Rattle.table.proofs.Early.{unless, first_ready}
 use Rattle.table.proofs.Limits.{counted_all}
 use Rattle.table.proofs.Choices.{or_yes}
 use Rattle.pck.specs.declared.Oriented.{Oriented}
@@ -40,6 +43,27 @@ module _ (limit : ℕ) (k : List ℕ) (n i : ℕ) (et : Float) (s : Segment) whe
   pub alone_some : n ≤ limit → is_nan et ≡ false → i < n → alone_with limit k n i et s ≡ settled s (evaluated Pck k s i et)
   unfolding alone_with tests
   alone_some l d h = ap₂ (λ (a b : Bool). tests a b (leb n i)) (le-ltb limit n l) d ∙ ap (tests false false) (lt-leb n i h)
+
+  -- the same by what the tests before any segment give; then its number
+  later : Bool → Oriented
+  later d = first_of (case d NoSegment ∷ []) refused_oriented (settled s (evaluated Pck k s i et))
+
+  by_ready : (r : Result (Unit {0}) Refusal) → ready limit n et ≡ r → unless r refused_oriented (later (leb n i)) ≡ alone_with limit k n i et s
+  unfolding alone_with later
+  by_ready r e =
+      sym (ap (λ (x : Result (Unit {0}) Refusal). unless x refused_oriented (later (leb n i))) e)
+      ∙ first_ready limit n et (case (leb n i) NoSegment ∷ []) refused_oriented (settled s (evaluated Pck k s i et))
+
+  pub unready : (r : Refusal) → ready limit n et ≡ Err r → refused_oriented r ≡ alone_with limit k n i et s
+  unready r e = by_ready (Err r) e
+
+  pub ready_none : (t : Unit {0}) → ready limit n et ≡ Ok t → n ≤ i → refused_oriented NoSegment ≡ alone_with limit k n i et s
+  unfolding later
+  ready_none t e h = sym (ap later (le-leb n i h)) ∙ by_ready (Ok t) e
+
+  pub ready_some : (t : Unit {0}) → ready limit n et ≡ Ok t → i < n → settled s (evaluated Pck k s i et) ≡ alone_with limit k n i et s
+  unfolding later
+  ready_some t e h = sym (ap later (lt-leb n i h)) ∙ by_ready (Ok t) e
 
 module _ (limit : ℕ) (k : List ℕ) (segs : List Segment) (n i : ℕ) (et : Float) where
   abbrev s : Segment

@@ -12,16 +12,15 @@ use Rattle.refusal.specs.Order.{case, first_of}
 use Rattle.frame.specs.State.{finite_state}
 use Rattle.daf.specs.declared.Family.TheVariants.{Pck}
 use Rattle.segment.specs.declared.Segment.{Segment}
-use Rattle.segment.specs.declared.Evaluated.{Evaluated}
-use Rattle.segment.specs.declared.Evaluated.TheVariants as evaluation
+use Rattle.std.proofs.Common.{Result, Ok, Err}
+use Rattle.segment.specs.declared.Valued.{Valued}
 use Rattle.segment.specs.Evaluating.{evaluated}
 use Rattle.segment.specs.Before.{old_evaluated, bare_evaluated}
 use Rattle.segment.proofs.Before.{evaluated_as_before}
-use Rattle.table.specs.declared.Choice.{Choice}
-use Rattle.table.specs.declared.Choice.TheVariants.{At, Nothing}
+use Rattle.std.proofs.Common.{Option, Some, None}
 use Rattle.table.specs.Segments.{seg}
 use Rattle.pck.specs.declared.Question.{Question}
-use Rattle.pck.specs.declared.Outcome.TheVariants.{Turned}
+use Rattle.std.specs.Prelude.{Ok}
 use Rattle.pck.specs.Orienting.{oriented_of, refused_oriented, settled, chosen, no_coverage, oriented_by, oriented}
 use Rattle.pck.specs.Alone.{alone_with, alone_oriented}
 use Rattle.pck.specs.Before.{old_refused, old_settled, old_by, old_oriented, old_alone, bare_oriented}
@@ -30,13 +29,13 @@ refused_as : (r : Refusal) → bare_oriented (refused_oriented r) ≡ old_refuse
 unfolding refused_oriented
 refused_as r = refl
 
-settled_as : (s : Segment) (e : Evaluated) → bare_oriented (settled s e) ≡ old_settled s (bare_evaluated e)
+settled_as : (s : Segment) (e : Result Valued Refusal) → bare_oriented (settled s e) ≡ old_settled s (bare_evaluated e)
 unfolding settled
-settled_as s (evaluation.Refused r) = refused_as r
-settled_as s (evaluation.State v) = go (finite_state v.state)
+settled_as s (Err r) = refused_as r
+settled_as s (Ok v) = go (finite_state v.state)
   where
-    go : (b : Bool) → bare_oriented (cond b (oriented_of Turned s.frame v.state v.stretched) (refused_oriented NotFinite))
-        ≡ cond b (record { outcome = Turned; frame = s.frame; angles = v.state }) (old_refused NotFinite)
+    go : (b : Bool) → bare_oriented (cond b (oriented_of (Ok tt) s.frame v.state v.stretched) (refused_oriented NotFinite))
+        ≡ cond b (record { outcome = Ok tt; frame = s.frame; angles = v.state }) (old_refused NotFinite)
     go true = refl
     go false = refused_as NotFinite
 
@@ -48,12 +47,12 @@ pub oriented_as_before : (limit : ℕ) (k : List ℕ) (segs : List Segment) (n :
 unfolding oriented
 oriented_as_before limit k segs n q = go (ltb limit n) (is_nan q.et) (chosen segs n q)
   where
-    go : (a b : Bool) (c : Choice) → bare_oriented (first_of (case a TableUnfit ∷ case b EpochNan ∷ []) refused_oriented (oriented_by k segs q c))
+    go : (a b : Bool) (c : Option ℕ) → bare_oriented (first_of (case a TableUnfit ∷ case b EpochNan ∷ []) refused_oriented (oriented_by k segs q c))
         ≡ first_of (case a TableUnfit ∷ case b EpochNan ∷ []) old_refused (old_by k segs q c)
     go true b c = refused_as TableUnfit
     go false true c = refused_as EpochNan
-    go false false (At i) = one_as k (seg segs i) i q.et
-    go false false Nothing = refused_as (no_coverage q)
+    go false false (Some i) = one_as k (seg segs i) i q.et
+    go false false None = refused_as (no_coverage q)
 
 pub alone_as_before : (limit : ℕ) (k : List ℕ) (segs : List Segment) (n i : ℕ) (et : Float) → bare_oriented (alone_oriented limit k segs n i et) ≡ old_alone limit k segs n i et
 unfolding alone_with

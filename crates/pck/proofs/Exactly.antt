@@ -19,16 +19,13 @@ use Rattle.frame.proofs.Finite.{infinite_where, infinite_only}
 use Rattle.daf.specs.declared.Family.TheVariants.{Pck}
 use Rattle.segment.specs.declared.Segment.{Segment}
 use Rattle.segment.specs.declared.Valued.{Valued}
-use Rattle.segment.specs.declared.Evaluated.{Evaluated}
-use Rattle.segment.specs.declared.Evaluated.TheVariants as evaluation
+use Rattle.std.proofs.Common.{Result, Ok, Err}
 use Rattle.segment.specs.Evaluating.{cases, evaluated}
 use Rattle.segment.proofs.Refusals.{refused_by_lem, never_16}
-use Rattle.table.specs.declared.Choice.{Choice}
-use Rattle.table.specs.declared.Choice.TheVariants.{At, Nothing}
+use Rattle.std.proofs.Common.{Option, Some, None}
 use Rattle.table.specs.Segments.{seg}
 use Rattle.pck.specs.declared.Question.{Question}
-use Rattle.pck.specs.declared.Outcome.{Outcome}
-use Rattle.pck.specs.declared.Outcome.TheVariants.{Turned, Refused}
+use Rattle.std.specs.Prelude.{Result, Ok, Err}
 use Rattle.pck.specs.declared.Oriented.{Oriented}
 use Rattle.pck.specs.Orienting.{oriented_of, refused_oriented, settled, hits, chosen, no_coverage, oriented_by, oriented}
 use Rattle.pck.specs.When.{Past, Answers, RefusedBy, value_of, When10, When11, WhenOwn, When14, When15}
@@ -40,27 +37,27 @@ pub clash : {X : Type 0} → ◌≡◌ {A = ℕ} 0 1 → X
 clash z = absurd (let y = z in omega arith)
 
 -- a refused answer's outcome
-pub outcome_refused : (r : Refusal) → (refused_oriented r).outcome ≡ Refused r
+pub outcome_refused : (r : Refusal) → (refused_oriented r).outcome ≡ Err r
 unfolding refused_oriented
 outcome_refused r = refl
 
-pub one_refusal : (r s : Refusal) → (refused_oriented r).outcome ≡ Refused s → r ≡ s
-one_refusal r s h = let e : ◌≡◌ {A = Outcome} (Refused r) (Refused s) = sym (outcome_refused r) ∙ h in cc
+pub one_refusal : (r s : Refusal) → (refused_oriented r).outcome ≡ Err s → r ≡ s
+one_refusal r s h = let e : ◌≡◌ {A = Result (Unit {0}) Refusal} (Err r) (Err s) = sym (outcome_refused r) ∙ h in cc
 
 -- why what a segment was evaluated to is refused: by itself, or by 15
-pub settled_why : (s : Segment) (e : Evaluated) (r : Refusal) → (settled s e).outcome ≡ Refused r
-    → (e ≡ evaluation.Refused r) ⊎ ((x : Valued) × (e ≡ evaluation.State x) × (finite_state x.state ≡ false) × (NotFinite ≡ r))
+pub settled_why : (s : Segment) (e : Result Valued Refusal) (r : Refusal) → (settled s e).outcome ≡ Err r
+    → (e ≡ Err r) ⊎ ((x : Valued) × (e ≡ Ok x) × (finite_state x.state ≡ false) × (NotFinite ≡ r))
 unfolding settled
-settled_why s (evaluation.Refused x) r h = inl (ap evaluation.Refused (one_refusal x r h))
-settled_why s (evaluation.State x) r h = go (finite_state x.state) refl h
+settled_why s (Err x) r h = inl (ap Err (one_refusal x r h))
+settled_why s (Ok x) r h = go (finite_state x.state) refl h
   where
-    go : (b : Bool) → finite_state x.state ≡ b → (cond b (oriented_of Turned s.frame x.state x.stretched) (refused_oriented NotFinite)).outcome ≡ Refused r
-        → (◌≡◌ {A = Evaluated} (evaluation.State x) (evaluation.Refused r)) ⊎ ((y : Valued) × (evaluation.State x ≡ evaluation.State y) × (finite_state y.state ≡ false) × (NotFinite ≡ r))
+    go : (b : Bool) → finite_state x.state ≡ b → (cond b (oriented_of (Ok tt) s.frame x.state x.stretched) (refused_oriented NotFinite)).outcome ≡ Err r
+        → (◌≡◌ {A = Result Valued Refusal} (Ok x) (Err r)) ⊎ ((y : Valued) × ◌≡◌ {A = Result Valued Refusal} (Ok x) (Ok y) × (finite_state y.state ≡ false) × (NotFinite ≡ r))
     go true f e = clash (cc)
     go false f e = inr (x, refl, f, one_refusal NotFinite r e)
 
 -- a segment's own refusals are 12, 13 and 14
-pub own_number : (k : List ℕ) (s : Segment) (i : ℕ) (et : Float) (r : Refusal) → evaluated Pck k s i et ≡ evaluation.Refused r
+pub own_number : (k : List ℕ) (s : Segment) (i : ℕ) (et : Float) (r : Refusal) → evaluated Pck k s i et ≡ Err r
     → (12 ≤ number_of r) × (number_of r ≤ 14)
 own_number k s i et r e = go (refused_by_lem Pck k s i et r e)
   where
@@ -71,7 +68,7 @@ own_number k s i et r e = go (refused_by_lem Pck k s i et r e)
     go (zero, h, x) = within 12 (omega arith) (ap number_of x)
     go (suc zero, h, x) = within 14 (omega arith) (ap number_of x)
     go (suc (suc zero), h, x) = within 13 (omega arith) (ap number_of x)
-    go (suc (suc (suc zero)), h, x) = absurd (never_16 Pck k s i et i (e ∙ ap evaluation.Refused x))
+    go (suc (suc (suc zero)), h, x) = absurd (never_16 Pck k s i et i (e ∙ ap Err x))
     go (suc (suc (suc (suc j))), h, x) = absurd h.1.1.1.1
 
 module _ (limit : ℕ) (k : List ℕ) (segs : List Segment) (n : ℕ) (q : Question) where
@@ -86,14 +83,14 @@ module _ (limit : ℕ) (k : List ℕ) (segs : List Segment) (n : ℕ) (q : Quest
   -- the segment that answers is the choice
   answer_choice : (i : ℕ) → Answers limit segs n q i → oriented limit k segs n q ≡ settled (seg segs i) (value_of limit k segs n q i)
   answer_choice i a =
-      oriented_by_lem limit k segs n q (At i) (last_chosen (hits q) segs n i (record { below = a.below; passes = a.covers; none = a.last })) a.past.fits a.past.number
+      oriented_by_lem limit k segs n q (Some i) (last_chosen (hits q) segs n i (record { below = a.below; passes = a.covers; none = a.last })) a.past.fits a.past.number
 
   -- the whole of a refused answer, by its reason
   refused_whole : (r : Refusal) → Why r → oriented limit k segs n q ≡ refused_oriented r
   refused_whole r (over l e) = oriented_unfit limit k segs n q l ∙ ap refused_oriented e
   refused_whole r (nan w e) = oriented_nan limit k segs n q w.fits w.nan ∙ ap refused_oriented e
   refused_whole r (none b w e) =
-      oriented_by_lem limit k segs n q Nothing (none_chosen (hits q) segs n w.none) w.past.fits w.past.number
+      oriented_by_lem limit k segs n q None (none_chosen (hits q) segs n w.none) w.past.fits w.past.number
       ∙ ap refused_oriented (ap NoCoverage w.body ∙ e)
   refused_whole r (own w) = answer_choice w.number w.answers ∙ settled_refused _ _ r w.given
   refused_whole r (infinite w e) = answer_choice w.number w.answers ∙ settled_state _ _ w.value false w.given (infinite_where w.value.state w.infinite) ∙ ap refused_oriented e
@@ -102,9 +99,9 @@ module _ (limit : ℕ) (k : List ℕ) (segs : List Segment) (n : ℕ) (q : Quest
   given_why r w = ap (λ (a : Oriented). a.outcome) (refused_whole r w) ∙ outcome_refused r
 
   -- what a choice results in, past the first two tests
-  by_choice : (r : Refusal) → Past limit n q → (c : Choice) → chosen segs n q ≡ c → (oriented_by k segs q c).outcome ≡ Refused r → Why r
-  by_choice r p Nothing e h = none q.body (record { past = p; none = chosen_none (hits q) segs n e; body = refl }) (one_refusal (no_coverage q) r h)
-  by_choice r p (At i) e h =
+  by_choice : (r : Refusal) → Past limit n q → (c : Option ℕ) → chosen segs n q ≡ c → (oriented_by k segs q c).outcome ≡ Err r → Why r
+  by_choice r p None e h = none q.body (record { past = p; none = chosen_none (hits q) segs n e; body = refl }) (one_refusal (no_coverage q) r h)
+  by_choice r p (Some i) e h =
       let l = chosen_last (hits q) segs n i e in
       let a : Answers limit segs n q i = record { past = p; below = l.below; covers = l.passes; last = l.none } in
       ⊎_elim (λ x. own (record { number = i; answers = a; given = x }))
@@ -122,7 +119,7 @@ module _ (limit : ℕ) (k : List ℕ) (segs : List Segment) (n : ℕ) (q : Quest
             (λ d. by_choice r (record { fits = le; number = d }) (chosen segs n q) refl (from (oriented_by_lem limit k segs n q (chosen segs n q) refl le d)))
       ]
     where
-      from : {a : Oriented} → oriented limit k segs n q ≡ a → a.outcome ≡ Refused r
+      from : {a : Oriented} → oriented limit k segs n q ≡ a → a.outcome ≡ Err r
       from e = ap (λ (x : Oriented). x.outcome) (sym e) ∙ h
 
   -- a refused answer holds frame 0 and six zeros
@@ -181,7 +178,7 @@ module _ (limit : ℕ) (k : List ℕ) (segs : List Segment) (n : ℕ) (q : Quest
       only (infinite w x) = clash (cc)
 
   -- where the count fits and no segment of the table is refused with 14, no question is
-  pub never_14 : n ≤ limit → ((i : ℕ) → i < n → (et : Float) → evaluated Pck k (seg segs i) i et ≡ evaluation.Refused TableUnfit → ⊥) → RefusedBy limit k segs n q TableUnfit → ⊥
+  pub never_14 : n ≤ limit → ((i : ℕ) → i < n → (et : Float) → evaluated Pck k (seg segs i) i et ≡ Err TableUnfit → ⊥) → RefusedBy limit k segs n q TableUnfit → ⊥
   never_14 le fit h = ⊎_elim (λ l. omega arith) (λ w. fit w.number w.answers.below q.et w.given) (exactly_14.0 h)
 
   -- **exactly-when**, 15

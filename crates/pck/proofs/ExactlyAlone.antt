@@ -14,7 +14,7 @@ use Rattle.refusal.specs.declared.Refusal.TheVariants.{TableUnfit, EpochNan, NoS
 use Rattle.refusal.specs.Numbers.{number_of}
 use Rattle.segment.specs.declared.Segment.{Segment}
 use Rattle.table.specs.Segments.{seg}
-use Rattle.pck.specs.declared.Outcome.TheVariants.{Refused}
+use Rattle.std.specs.Prelude.{Err}
 use Rattle.pck.specs.declared.Oriented.{Oriented}
 use Rattle.pck.specs.Orienting.{refused_oriented}
 use Rattle.pck.specs.Alone.{alone_oriented, PastAlone, AloneBy, alone_value, Alone10, Alone17, AloneOwn, Alone14, Alone15}
@@ -61,7 +61,7 @@ module _ (limit : ℕ) (k : List ℕ) (segs : List Segment) (n i : ℕ) (et : Fl
             ])
       ]
     where
-      from : {a : Oriented} → alone_oriented limit k segs n i et ≡ a → a.outcome ≡ Refused r
+      from : {a : Oriented} → alone_oriented limit k segs n i et ≡ a → a.outcome ≡ Err r
       from e = ap (λ (x : Oriented). x.outcome) (sym e) ∙ h
 
   -- a refused answer holds frame 0 and six zeros

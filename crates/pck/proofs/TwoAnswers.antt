@@ -8,19 +8,15 @@ use types.Logic.{Logic}
 use contract.Monad.{Fun}
 use Rattle.promised.specs.Promised.{Determined}
 use Rattle.promised.proofs.Alike.{equal}
-use Rattle.pck.specs.contracts.or_body as m-or-body
-use Rattle.pck.specs.contracts.is_early as m-is-early
+use Rattle.pck.specs.contracts.Question.hits as m-question-hits
 use Rattle.pck.specs.contracts.early as m-early
 use Rattle.pck.specs.contracts.answered_by as m-answered-by
 use Rattle.pck.specs.contracts.uncovered as m-uncovered
 use Rattle.pck.specs.contracts.alone_by as m-alone-by
 
 module _ {M : Type 1} {𝓤 : Ura M} (𝓛 : Logic 𝓤) (mem : Memory → SProp 𝓤) (run : Routine → Fun 𝓤) where
-  pub two_or_body : Determined 𝓤 m-or-body.ended (m-or-body.clauses 𝓛 mem run)
-  two_or_body κs a g r r' ws ws' = equal 𝓤 refl
-
-  pub two_is_early : Determined 𝓤 m-is-early.ended (m-is-early.clauses 𝓛 mem run)
-  two_is_early κs a g r r' ws ws' = equal 𝓤 refl
+  pub two_question_hits : Determined 𝓤 m-question-hits.ended (m-question-hits.clauses 𝓛 mem run)
+  two_question_hits κs a g r r' ws ws' = equal 𝓤 refl
 
   pub two_early : Determined 𝓤 m-early.ended (m-early.clauses 𝓛 mem run)
   two_early κs a g r r' ws ws' = equal 𝓤 refl

@@ -11,24 +11,22 @@ use Rattle.refusal.specs.Order.{case, first_of}
 use Rattle.frame.specs.State.{finite_state}
 use Rattle.segment.specs.declared.Segment.{Segment}
 use Rattle.segment.specs.declared.Valued.{Valued}
-use Rattle.segment.specs.declared.Evaluated.{Evaluated}
-use Rattle.segment.specs.declared.Evaluated.TheVariants as evaluation
-use Rattle.table.specs.declared.Choice.{Choice}
+use Rattle.std.proofs.Common.{Option, Result, Ok, Err}
 use Rattle.pck.specs.declared.Question.{Question}
-use Rattle.pck.specs.declared.Outcome.TheVariants.{Turned}
+use Rattle.std.specs.Prelude.{Ok}
 use Rattle.pck.specs.declared.Oriented.{Oriented}
 use Rattle.pck.specs.Orienting.{oriented_of, refused_oriented, settled, chosen, oriented_by, oriented}
 
-module _ (s : Segment) (e : Evaluated) where
+module _ (s : Segment) (e : Result Valued Refusal) where
   -- the evaluation was refused
-  pub settled_refused : (r : Refusal) → e ≡ evaluation.Refused r → settled s e ≡ refused_oriented r
+  pub settled_refused : (r : Refusal) → e ≡ Err r → settled s e ≡ refused_oriented r
   unfolding settled
   settled_refused r h = ap (settled s) h
 
   -- it gave six numbers, finite or not
-  pub settled_state : (x : Valued) (b : Bool) → e ≡ evaluation.State x → finite_state x.state ≡ b → settled s e ≡ cond b (oriented_of Turned s.frame x.state x.stretched) (refused_oriented NotFinite)
+  pub settled_state : (x : Valued) (b : Bool) → e ≡ Ok x → finite_state x.state ≡ b → settled s e ≡ cond b (oriented_of (Ok tt) s.frame x.state x.stretched) (refused_oriented NotFinite)
   unfolding settled
-  settled_state x b h f = ap (settled s) h ∙ ap (λ (t : Bool). cond t (oriented_of Turned s.frame x.state x.stretched) (refused_oriented NotFinite)) f
+  settled_state x b h f = ap (settled s) h ∙ ap (λ (t : Bool). cond t (oriented_of (Ok tt) s.frame x.state x.stretched) (refused_oriented NotFinite)) f
 
 module _ (limit : ℕ) (k : List ℕ) (segs : List Segment) (n : ℕ) (q : Question) where
   -- what the two tests give
@@ -46,6 +44,6 @@ module _ (limit : ℕ) (k : List ℕ) (segs : List Segment) (n : ℕ) (q : Quest
   oriented_nan l d = ap₂ tests (le-ltb limit n l) d
 
   -- the choice
-  pub oriented_by_lem : (c : Choice) → chosen segs n q ≡ c → n ≤ limit → is_nan q.et ≡ false → oriented limit k segs n q ≡ oriented_by k segs q c
+  pub oriented_by_lem : (c : Option ℕ) → chosen segs n q ≡ c → n ≤ limit → is_nan q.et ≡ false → oriented limit k segs n q ≡ oriented_by k segs q c
   unfolding oriented tests
   oriented_by_lem c e l d = ap₂ tests (le-ltb limit n l) d ∙ ap (oriented_by k segs q) e

@@ -1,6 +1,6 @@
 -- A segment of a PCK evaluated alone, covering or not: RULES, "Evaluating a segment"; and when it is refused. Assumes nothing: these are
 -- definitions.
-use Rattle.std.specs.Prelude.{ℕ, ◌≤◌, ◌<◌, ◌≡◌, true, false, ◌⊎◌, List, [], ◌∷◌, ltb, leb, Float}
+use Rattle.std.specs.Prelude.{ℕ, ◌≤◌, ◌<◌, ◌≡◌, true, false, ◌⊎◌, List, [], ◌∷◌, ltb, leb, Float, Err}
 use Rattle.std.specs.Float.Ieee.{is_nan}
 use Rattle.refusal.specs.declared.Refusal.{Refusal}
 use Rattle.refusal.specs.declared.Refusal.TheVariants.{TableUnfit, EpochNan, NoSegment}
@@ -9,11 +9,9 @@ use Rattle.frame.specs.State.{finite_state}
 use Rattle.daf.specs.declared.Family.TheVariants.{Pck}
 use Rattle.segment.specs.declared.Segment.{Segment}
 use Rattle.segment.specs.declared.Valued.{Valued}
-use Rattle.segment.specs.declared.Evaluated.{Evaluated}
-use Rattle.segment.specs.declared.Evaluated.TheVariants as evaluation
+use Rattle.std.specs.Prelude.{Result, Ok, Err}
 use Rattle.segment.specs.Evaluating.{evaluated}
 use Rattle.table.specs.Segments.{seg}
-use Rattle.pck.specs.declared.Outcome.TheVariants.{Refused}
 use Rattle.pck.specs.declared.Oriented.{Oriented}
 use Rattle.pck.specs.Orienting.{refused_oriented, settled}
 
@@ -37,10 +35,10 @@ pub record PastAlone (limit n i : ℕ) (et : Float) : Type 0 where
 module _ (limit : ℕ) (k : List ℕ) (segs : List Segment) (n i : ℕ) (et : Float) where
   -- It is refused so.
   abbrev pub AloneBy : Refusal → Type 0
-  AloneBy r = (alone_oriented limit k segs n i et).outcome ≡ Refused r
+  AloneBy r = (alone_oriented limit k segs n i et).outcome ≡ Err r
 
   -- What it is evaluated to.
-  abbrev pub alone_value : Evaluated
+  abbrev pub alone_value : Result Valued Refusal
   alone_value = evaluated Pck k (seg segs i) i et
 
   -- 10: the count fits, and the epoch is NaN.
@@ -57,7 +55,7 @@ module _ (limit : ℕ) (k : List ℕ) (segs : List Segment) (n i : ℕ) (et : Fl
   -- 12, 13 and the segment's 14: it is evaluated to the refusal.
   pub record AloneOwn (r : Refusal) : Type 0 where
     pub past : PastAlone limit n i et
-    pub given : alone_value ≡ evaluation.Refused r
+    pub given : alone_value ≡ Err r
 
   -- 14: the count is over the limit, or the segment doesn't fit the kernel.
   abbrev pub Alone14 : Type 0
@@ -67,5 +65,5 @@ module _ (limit : ℕ) (k : List ℕ) (segs : List Segment) (n i : ℕ) (et : Fl
   pub record Alone15 : Type 0 where
     pub past : PastAlone limit n i et
     pub value : Valued
-    pub given : alone_value ≡ evaluation.State value
+    pub given : alone_value ≡ Ok value
     pub not_finite : finite_state value.state ≡ false

@@ -1,5 +1,5 @@
 -- When an orientation is refused with 10, 11, 12, 13, 14 or 15: what the statements say. Assumes nothing: these are definitions.
-use Rattle.std.specs.Prelude.{ℕ, ◌≤◌, ◌<◌, ◌≡◌, true, false, ◌⊎◌, List, ℤ}
+use Rattle.std.specs.Prelude.{ℕ, ◌≤◌, ◌<◌, ◌≡◌, true, false, ◌⊎◌, List, ℤ, Err}
 use Rattle.std.specs.Float.Ieee.{is_nan}
 use Rattle.refusal.specs.declared.Refusal.{Refusal}
 use Rattle.refusal.specs.declared.Refusal.TheVariants.{TableUnfit}
@@ -7,12 +7,10 @@ use Rattle.frame.specs.Finite.{Infinite}
 use Rattle.daf.specs.declared.Family.TheVariants.{Pck}
 use Rattle.segment.specs.declared.Segment.{Segment}
 use Rattle.segment.specs.declared.Valued.{Valued}
-use Rattle.segment.specs.declared.Evaluated.{Evaluated}
-use Rattle.segment.specs.declared.Evaluated.TheVariants as evaluation
+use Rattle.std.specs.Prelude.{Result, Ok, Err}
 use Rattle.segment.specs.Evaluating.{evaluated}
 use Rattle.table.specs.Segments.{seg}
 use Rattle.pck.specs.declared.Question.{Question}
-use Rattle.pck.specs.declared.Outcome.TheVariants.{Refused}
 use Rattle.pck.specs.Orienting.{hits, oriented}
 
 -- Past the first two tests: the count fits, and the epoch is no NaN.
@@ -30,10 +28,10 @@ pub record Answers (limit : ℕ) (segs : List Segment) (n : ℕ) (q : Question) 
 module _ (limit : ℕ) (k : List ℕ) (segs : List Segment) (n : ℕ) (q : Question) where
   -- A question is refused so.
   abbrev pub RefusedBy : Refusal → Type 0
-  RefusedBy r = (oriented limit k segs n q).outcome ≡ Refused r
+  RefusedBy r = (oriented limit k segs n q).outcome ≡ Err r
 
   -- What segment i is evaluated to.
-  abbrev pub value_of : ℕ → Evaluated
+  abbrev pub value_of : ℕ → Result Valued Refusal
   value_of i = evaluated Pck k (seg segs i) i q.et
 
   -- 10: the count fits, and the epoch is NaN.
@@ -51,7 +49,7 @@ module _ (limit : ℕ) (k : List ℕ) (segs : List Segment) (n : ℕ) (q : Quest
   pub record WhenOwn (r : Refusal) : Type 0 where
     pub number : ℕ
     pub answers : Answers limit segs n q number
-    pub given : value_of number ≡ evaluation.Refused r
+    pub given : value_of number ≡ Err r
 
   -- 14: the count is over the limit, or the segment that answers doesn't fit the kernel.
   abbrev pub When14 : Type 0
@@ -62,5 +60,5 @@ module _ (limit : ℕ) (k : List ℕ) (segs : List Segment) (n : ℕ) (q : Quest
     pub number : ℕ
     pub answers : Answers limit segs n q number
     pub value : Valued
-    pub given : value_of number ≡ evaluation.State value
+    pub given : value_of number ≡ Ok value
     pub infinite : Infinite value.state

@@ -2,20 +2,19 @@
 
 #![tactic(auto)]
 
-ghost use Rattle.std.specs.Prelude.{◌≡◌, ◌<◌};
+ghost use Rattle.std.specs.Prelude.{◌≡◌, ◌≤◌, ◌<◌, ℕ, Option, length, unwrap_or};
 ghost use Rattle.daf.specs.declared.Family.TheVariants.{Pck};
 ghost use Rattle.segment.specs.Evaluating.{evaluated};
 ghost use Rattle.table.specs.Places.{lent_limit, limit_of};
-ghost use Rattle.table.specs.Choosing.{or_else};
+ghost use Rattle.table.specs.Steps.{seg_or, Within};
 ghost use Rattle.pck.specs.Orienting.{oriented_of, refused_oriented, settled, is_body, hits, no_coverage};
-ghost use Rattle.pck.specs.Steps.{body_at, is_early, early_oriented};
+ghost use Rattle.pck.specs.Steps.{early, oriented_with};
 ghost use Rattle.pck.specs.Alone.{alone_with};
 
 use daf::Family;
 use frame::State;
 use refusal::Refusal;
-use segment::{Evaluated, Segment};
-use table::{Choice, Table};
+use segment::{Segment, Valued};
 
 // The orientation of a body frame at an epoch.
 #[derive(Clone, Copy)]
@@ -24,18 +23,11 @@ pub struct Question {
     pub et: f64,
 }
 
-// How a question ended.
-#[derive(Clone, Copy)]
-pub enum Outcome {
-    Turned,
-    Refused(Refusal),
-}
-
 // An orientation: the segment's reference frame, the three angles and their rates, and whether a record was stretched; frame 0 and six zeros where it is a
 // refusal.
 #[derive(Clone, Copy)]
 pub struct Oriented {
-    pub outcome: Outcome,
+    pub outcome: Result<(), Refusal>,
     pub frame: i32,
     pub angles: State,
     pub stretched: bool,
@@ -50,7 +42,7 @@ impl Question {
     }
 
     // The segment is of this body frame and covers the epoch.
-    fn hits(self, s: Segment) -> bool
+    pub fn hits(self, s: Segment) -> bool
         ensures { result ≡ hits self s }
     {
         self.is_body(s) && table::is_covering(s, self.et)
@@ -66,14 +58,14 @@ impl Question {
 
 impl Oriented {
     // Every answer is made here.
-    fn new(outcome: Outcome, frame: i32, angles: State, stretched: bool) -> Oriented
+    fn new(outcome: Result<(), Refusal>, frame: i32, angles: State, stretched: bool) -> Oriented
         ensures { result ≡ oriented_of outcome frame angles stretched }
     {
         Oriented {
-            outcome: outcome,
-            frame: frame,
-            angles: angles,
-            stretched: stretched,
+            outcome,
+            frame,
+            angles,
+            stretched,
         }
     }
 
@@ -81,18 +73,18 @@ impl Oriented {
     fn refused(refusal: Refusal) -> Oriented
         ensures { result ≡ refused_oriented refusal }
     {
-        Oriented::new(Outcome::Refused(refusal), 0, State::zero(), false)
+        Oriented::new(Err(refusal), 0, State::zero(), false)
     }
 
     // The answer of what a segment was evaluated to: its refusal, then 15, then its reference frame with the six numbers and its word.
-    fn settled(s: Segment, e: Evaluated) -> Oriented
+    fn settled(s: Segment, e: Result<Valued, Refusal>) -> Oriented
         ensures { result ≡ settled s e }
     {
         match e {
-            Evaluated::Refused(refusal) => Oriented::refused(refusal),
-            Evaluated::State(value) => {
+            Err(refusal) => Oriented::refused(refusal),
+            Ok(value) => {
                 if value.state.is_finite() {
-                    Oriented::new(Outcome::Turned, s.frame, value.state, value.stretched)
+                    Oriented::new(Ok(()), s.frame, value.state, value.stretched)
                 } else {
                     Oriented::refused(Refusal::NotFinite)
                 }
@@ -103,49 +95,11 @@ impl Oriented {
 
 // ---- what a question goes by
 
-// What was kept, else segment i where it is of the body frame and covers the epoch.
-pub fn or_body(kept: Choice, q: Question, s: Segment, i: usize) -> Choice
-    ensures { result ≡ or_else kept (body_at q s i) }
+// What the tests before any segment answer: the refusals of a count and of an epoch. None where no test decides.
+pub fn early(places: usize, n: usize, q: Question) -> Option<Oriented>
+    ensures { result ≡ early (limit_of places) n q }
 {
-    match kept {
-        Choice::At(k) => Choice::At(k),
-        Choice::Nothing => {
-            if q.hits(s) {
-                Choice::At(i)
-            } else {
-                Choice::Nothing
-            }
-        }
-    }
-}
-
-// A test before any segment decides the question.
-pub fn is_early(places: usize, n: usize, q: Question) -> bool
-    ensures { result ≡ is_early (limit_of places) n q }
-{
-    if Table::LENT < n {
-        return true;
-    }
-    if places < n {
-        return true;
-    }
-    if q.et != q.et {
-        return true;
-    }
-    false
-}
-
-// The answer that it then has.
-pub fn early(places: usize, n: usize) -> Oriented
-    ensures { result ≡ early_oriented (limit_of places) n }
-{
-    if Table::LENT < n {
-        return Oriented::refused(Refusal::TableUnfit);
-    }
-    if places < n {
-        return Oriented::refused(Refusal::TableUnfit);
-    }
-    Oriented::refused(Refusal::EpochNan)
+    table::ready(places, n, q.et).err().map(Oriented::refused)
 }
 
 // Segment i, which was chosen, answers.
@@ -164,6 +118,28 @@ pub fn uncovered(q: Question) -> Oriented
     Oriented::refused(q.no_coverage())
 }
 
+// The orientation of a body frame over the first n segments, by what finds the last covering one of the body frame: the scan of all segments, or the walk
+// of an index. It is called only where no test before it decides.
+pub fn orient<L: FnOnce() -> Option<usize>>(
+    kernel: &[u8],
+    table: &[Segment],
+    n: usize,
+    q: Question,
+    last: L,
+) -> Oriented
+    requires finds { n ≤ limit_of (length table.now) → L.pre last }
+    requires within { (r : Option ℕ) → L.post last r → Within n r }
+    ensures { (c : Option ℕ) → ((r : Option ℕ) → L.post last r → r ≡ c) → result ≡ oriented_with (limit_of (length table.now)) kernel.now n q c (seg_or table.now n (unwrap_or c n)) }
+{
+    if let Some(answer) = early(table.len(), n, q) {
+        return answer;
+    }
+    match last() {
+        Some(i) => answered_by(kernel, i, table[i], q),
+        None => uncovered(q),
+    }
+}
+
 // Segment `number`, which is s, by the tests before any evaluation, else evaluated.
 pub fn alone_by(
     kernel: &[u8],
@@ -175,14 +151,8 @@ pub fn alone_by(
 ) -> Oriented
     ensures { result ≡ alone_with (limit_of places) kernel.now n number et s }
 {
-    if Table::LENT < n {
-        return Oriented::refused(Refusal::TableUnfit);
-    }
-    if places < n {
-        return Oriented::refused(Refusal::TableUnfit);
-    }
-    if et != et {
-        return Oriented::refused(Refusal::EpochNan);
+    if let Err(refusal) = table::ready(places, n, et) {
+        return Oriented::refused(refusal);
     }
     if n <= number {
         return Oriented::refused(Refusal::NoSegment);

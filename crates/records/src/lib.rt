@@ -36,13 +36,10 @@ pub fn fit(s: &[u8], size: usize, mark: Mark) -> bool
     if s.len() % size != 0 {
         return false;
     }
-    let n = s.len() / size;
-    let mut i: usize = 0;
-    while i < n {
+    for i in 0..s.len() / size {
         if !is_marked(s, size, mark, i) {
             return false;
         }
-        i += 1;
     }
     true
 }

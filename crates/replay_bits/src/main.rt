@@ -4,8 +4,6 @@
 
 ghost use Rattle.std.specs.Prelude.{◌+◌, ◌≤◌, ◌<◌, length};
 
-use streams::Input;
-
 // One hexadecimal digit.
 fn digit(n: u8) -> u8
     requires { n < 16 }
@@ -17,11 +15,9 @@ fn digit(n: u8) -> u8
 fn put(rt: &HostRuntime, n: u64) {
     let mut line = [32u8; 17];
     let mut left = n;
-    let mut i: usize = 16;
-    while i > 0 {
-        i -= 1;
+    for i in (0..16).rev() {
         line[i] = digit((left % 16) as u8);
-        left = left / 16;
+        left /= 16;
     }
     streams::write(rt, &line, 17);
 }
@@ -36,13 +32,13 @@ fn is_one(x: f64) -> u64 {
     if bits::same_bits(x, 1.0) { 1 } else { 0 }
 }
 
-// The line of the 8 bytes at `at`.
-fn line(rt: &HostRuntime, s: &[u8], at: usize)
-    requires { at + 8 ≤ length s.now }
+// The line of 8 bytes.
+fn line(rt: &HostRuntime, s: &[u8])
+    requires { 8 ≤ length s.now }
 {
-    let x = bits::double_at(s, at);
-    put(rt, bits::le_u64(s, at));
-    put(rt, lifted(bits::le_i32(s, at)));
+    let x = bits::double_at(s, 0);
+    put(rt, bits::le_u64(s, 0));
+    put(rt, lifted(bits::le_i32(s, 0)));
     put(rt, bits::cut_u64(x));
     put(rt, bits::cut_u32(x) as u64);
     put(rt, bits::record_index(x, 7));
@@ -52,17 +48,14 @@ fn line(rt: &HostRuntime, s: &[u8], at: usize)
 
 // The lines of what was read, 8 bytes each; a rest of fewer has none.
 fn replay(rt: &HostRuntime, s: &[u8]) {
-    let mut at: usize = 0;
-    while at + 8 <= s.len() {
-        line(rt, s, at);
-        at += 8;
+    for part in s.chunks_exact(8) {
+        line(rt, part);
     }
 }
 
 fn main(rt: HostRuntime) {
     let mut buf = [0u8; 4096];
-    let input = streams::read_standard(&rt, &mut buf);
-    if let Input::Bytes(n) = input {
+    if let Some(n) = streams::read_standard(&rt, &mut buf) {
         replay(&rt, &buf[..n]);
     }
 }

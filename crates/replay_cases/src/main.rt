@@ -6,13 +6,11 @@
 
 #![tactic(auto)]
 
-ghost use Rattle.std.specs.Prelude.{◌+◌, ◌*◌, ◌≤◌, length};
+ghost use Rattle.std.specs.Prelude.{◌+◌, ◌*◌, ◌<◌, ◌≤◌, length, IfSome};
 
 use daf::Family;
-use opening::{Opened, Outcome};
+use opening::Opened;
 use records::Mark;
-use spk::{Memory, Wanted};
-use streams::Input;
 use table::Table;
 
 // A segment asked by its number: records as long as those of `orient`, after the mark A5 5D.
@@ -33,225 +31,169 @@ fn turn_len(kind: u32) -> usize
     if kind == 1 { TURN } else { 0 }
 }
 
+// A block of a file: what it asks, the matrix and the frame where it has them, what the table is made from, the kernel and the questions.
+#[derive(Clone, Copy)]
+struct Block<'a> {
+    kind: u32,
+    turn: &'a [u8],
+    origin: &'a [u8],
+    kernel: &'a [u8],
+    asked: &'a [u8],
+}
+
 // Writes a line for each question to an SPK. The memory goes from question to question.
 fn write_answers(
     rt: &HostRuntime,
     kernel: &[u8],
     table: Table,
     asked: &[u8],
-    wanted: Wanted,
+    wanted: Option<i32>,
     rot: [[f64; 3]; 3],
 ) {
-    let n = asked.len() / 18;
-    let mut memory = Memory::Blank;
-    let mut i: usize = 0;
-    while i < n {
+    let mut memory = None;
+    for i in 0..asked.len() / 18 {
         let q = ask_text::question_at(asked, i);
         let r = owned::state_in(kernel, table, memory, q, wanted, rot);
         memory = r.memory;
         if !ask_text::write_answer(rt, i, r.answer) {
             return;
         }
-        i += 1;
     }
 }
 
-// Questions to an SPK: the refusal of the opening, or a line each. With a matrix and a frame each state is asked in that frame.
-fn tell_states(rt: &HostRuntime, kernel: &[u8], opened: Opened, asked: &[u8], turn: &[u8]) {
-    let outcome = opened.outcome;
-    let table = opened.table;
-    match outcome {
-        Outcome::Refused(refusal) => {
-            streams::write_refusal(rt, refusal);
-        }
-        Outcome::Accepted => {
-            if turn.len() == TURN {
-                let to = Wanted::In(bits::le_i32(turn, admission::MATRIX));
-                write_answers(rt, kernel, table, asked, to, ask_text::rows(turn));
-            } else {
-                let none = [[0.0; 3]; 3];
-                write_answers(rt, kernel, table, asked, Wanted::AsItStands, none);
-            }
-        }
+// Writes a line for each question to an SPK, asked in a frame where there are a matrix and a frame.
+fn write_states(rt: &HostRuntime, kernel: &[u8], table: Table, asked: &[u8], turn: &[u8]) {
+    if turn.len() == TURN {
+        let to = Some(bits::le_i32(turn, admission::MATRIX));
+        write_answers(rt, kernel, table, asked, to, ask_text::rows(turn));
+    } else {
+        let none = [[0.0; 3]; 3];
+        write_answers(rt, kernel, table, asked, None, none);
     }
 }
 
 // Writes a line for each question to a PCK.
 fn write_oriented(rt: &HostRuntime, kernel: &[u8], table: Table, asked: &[u8]) {
-    let n = asked.len() / 14;
-    let mut i: usize = 0;
-    while i < n {
+    for i in 0..asked.len() / 14 {
         let q = orient_text::question_at(asked, i);
         if !orient_text::write_oriented(rt, i, owned::orient(kernel, table, q)) {
             return;
         }
-        i += 1;
     }
 }
 
-// Questions to a PCK: the refusal of the opening, or a line each.
-fn tell_oriented(rt: &HostRuntime, kernel: &[u8], opened: Opened, asked: &[u8]) {
-    let outcome = opened.outcome;
-    let table = opened.table;
-    match outcome {
-        Outcome::Refused(refusal) => {
-            streams::write_refusal(rt, refusal);
-        }
-        Outcome::Accepted => write_oriented(rt, kernel, table, asked),
-    }
-}
-
-// The number of the segment that question i asks for.
-fn number_at(asked: &[u8], i: usize) -> usize
-    requires { 14 * i + 14 ≤ length asked.now }
+// The number of a segment that is asked for, behind the mark of its record.
+fn number_of(asked: &[u8]) -> usize
+    requires { 6 ≤ length asked.now }
 {
-    bits::le_u32(asked, SIZE * i + 2) as usize
+    bits::le_u32(asked, 2) as usize
 }
 
 // Its epoch.
-fn epoch_at(asked: &[u8], i: usize) -> f64
-    requires { 14 * i + 14 ≤ length asked.now }
+fn epoch_of(asked: &[u8]) -> f64
+    requires { 14 ≤ length asked.now }
 {
-    bits::double_at(asked, SIZE * i + 6)
+    bits::double_at(asked, 6)
 }
 
 // Writes a line for each segment asked by its number.
 fn write_each(rt: &HostRuntime, kernel: &[u8], table: Table, asked: &[u8]) {
-    let n = asked.len() / SIZE;
-    let mut i: usize = 0;
-    while i < n {
-        let number = number_at(asked, i);
-        let et = epoch_at(asked, i);
-        if !ask_text::write_answer(rt, i, owned::alone(kernel, table, number, et)) {
+    for (i, record) in asked.chunks_exact(SIZE).enumerate() {
+        let answer = owned::alone(kernel, table, number_of(record), epoch_of(record));
+        if !ask_text::write_answer(rt, i, answer) {
             return;
         }
-        i += 1;
-    }
-}
-
-// Segments by their numbers: the refusal of the opening, or a line each.
-fn tell_alone(rt: &HostRuntime, kernel: &[u8], opened: Opened, asked: &[u8]) {
-    let outcome = opened.outcome;
-    let table = opened.table;
-    match outcome {
-        Outcome::Refused(refusal) => {
-            streams::write_refusal(rt, refusal);
-        }
-        Outcome::Accepted => write_each(rt, kernel, table, asked),
     }
 }
 
 // Writes a line for each segment of a PCK asked by its number.
 fn write_turned(rt: &HostRuntime, kernel: &[u8], table: Table, asked: &[u8]) {
-    let n = asked.len() / SIZE;
-    let mut i: usize = 0;
-    while i < n {
-        let number = number_at(asked, i);
-        let et = epoch_at(asked, i);
-        if !orient_text::write_oriented(rt, i, owned::orient_alone(kernel, table, number, et)) {
+    for (i, record) in asked.chunks_exact(SIZE).enumerate() {
+        let turned = owned::orient_alone(kernel, table, number_of(record), epoch_of(record));
+        if !orient_text::write_oriented(rt, i, turned) {
             return;
         }
-        i += 1;
     }
 }
 
-// Segments of a PCK by their numbers: the refusal of the opening, or a line each.
-fn tell_turned(rt: &HostRuntime, kernel: &[u8], opened: Opened, asked: &[u8]) {
-    let outcome = opened.outcome;
-    let table = opened.table;
-    match outcome {
-        Outcome::Refused(refusal) => {
+// Hands on the table of an opening, or writes the line of its refusal.
+fn with_table<F: FnOnce(Table)>(rt: &HostRuntime, opened: Opened, then: F)
+    requires { F.IsAlwaysCallable then }
+{
+    match opened.outcome {
+        Ok(()) => then(opened.table),
+        Err(refusal) => {
             streams::write_refusal(rt, refusal);
         }
-        Outcome::Accepted => write_turned(rt, kernel, table, asked),
     }
 }
 
-// Puts the questions to a kernel with the table of `origin`.
-fn tell(rt: &HostRuntime, kind: u32, turn: &[u8], origin: &[u8], kernel: &[u8], asked: &[u8]) {
+// Puts the questions of a block to its kernel.
+fn tell(rt: &HostRuntime, block: Block) {
+    let Block {
+        kind,
+        turn,
+        origin,
+        kernel,
+        asked,
+    } = block;
     match kind {
-        0 => tell_states(rt, kernel, ask_text::open(origin, asked), asked, turn),
-        1 => tell_states(rt, kernel, ask_text::open(origin, asked), asked, turn),
-        2 => tell_oriented(rt, kernel, orient_text::open(origin, asked), asked),
-        3 => tell_alone(
+        0 | 1 => with_table(rt, ask_text::open(origin, asked), |t| {
+            write_states(rt, kernel, t, asked, turn)
+        }),
+        2 => with_table(rt, orient_text::open(origin, asked), |t| {
+            write_oriented(rt, kernel, t, asked)
+        }),
+        3 => with_table(
             rt,
-            kernel,
             admission::open(origin, Family::Spk, asked, SIZE, MARK),
-            asked,
+            |t| write_each(rt, kernel, t, asked),
         ),
-        4 => tell_turned(
+        4 => with_table(
             rt,
-            kernel,
             admission::open(origin, Family::Pck, asked, SIZE, MARK),
-            asked,
+            |t| write_turned(rt, kernel, t, asked),
         ),
         _ => streams::complain(rt, b"a block of another kind\n"),
     }
 }
 
-// Replays the block at `at` and answers where the next one starts.
-fn replay_block(rt: &HostRuntime, s: &[u8], at: usize) -> usize
-    requires { at + 16 ≤ length s.now }
-    ensures { (at + 16 ≤ result) × (result ≤ length s.now) }
+// The first block, and what follows it; none where it is cut short.
+fn first_block(s: &[u8]) -> Option<(Block, &[u8])>
+    ensures { IfSome result (λ p. length p.1.now < length s.now) }
 {
-    let kind = bits::le_u32(s, at);
-    let turn = at + 16;
-    let origin = turn + turn_len(kind);
-    let kernel = origin + bits::le_u32(s, at + 4) as usize;
-    let asked = kernel + bits::le_u32(s, at + 8) as usize;
-    let next = asked + bits::le_u32(s, at + 12) as usize;
-    if s.len() < next {
-        streams::complain(rt, b"a block is cut short\n");
-        return s.len();
-    }
-    if origin == kernel {
-        tell(
-            rt,
-            kind,
-            &s[turn..origin],
-            &s[kernel..asked],
-            &s[kernel..asked],
-            &s[asked..next],
-        );
-    } else {
-        tell(
-            rt,
-            kind,
-            &s[turn..origin],
-            &s[origin..kernel],
-            &s[kernel..asked],
-            &s[asked..next],
-        );
-    }
-    next
+    let (head, s) = s.split_first_chunk::<16>()?;
+    let kind = bits::le_u32(head, 0);
+    let (turn, s) = s.split_at_checked(turn_len(kind))?;
+    let (origin, s) = s.split_at_checked(bits::le_u32(head, 4) as usize)?;
+    let (kernel, s) = s.split_at_checked(bits::le_u32(head, 8) as usize)?;
+    let (asked, s) = s.split_at_checked(bits::le_u32(head, 12) as usize)?;
+    let origin = if origin.is_empty() { kernel } else { origin };
+    let block = Block {
+        kind,
+        turn,
+        origin,
+        kernel,
+        asked,
+    };
+    Some((block, s))
 }
 
 // Replays the blocks of a file.
 fn replay(rt: &HostRuntime, s: &[u8]) {
-    let mut at: usize = 0;
-    while at < s.len() {
-        if s.len() - at < 16 {
+    let mut rest = s;
+    while !rest.is_empty() {
+        let Some((block, next)) = first_block(rest) else {
             streams::complain(rt, b"a block is cut short\n");
             return;
-        }
-        at = replay_block(rt, s, at);
-    }
-}
-
-// Replays the file that argument i names.
-fn replay_argument(rt: &HostRuntime, i: usize) {
-    let mut buf = [0u8; streams::ROOM];
-    let input = streams::read_argument(rt, i, b"CASES", &mut buf);
-    if let Input::Bytes(n) = input {
-        replay(rt, &buf[..n]);
+        };
+        tell(rt, block);
+        rest = next;
     }
 }
 
 fn main(rt: HostRuntime) {
-    let given = streams::argument_count(&rt);
-    let mut i: usize = 1;
-    while i < given {
-        replay_argument(&rt, i);
-        i += 1;
+    for i in 1..streams::argument_count(&rt) {
+        streams::with_argument(&rt, i, b"CASES", |s| replay(&rt, s));
     }
 }

@@ -3,11 +3,8 @@
 
 #![tactic(auto)]
 
-ghost use Rattle.std.specs.Prelude.{◌+◌, ◌≤◌, length};
-
-use daf::{Daf, Family, Opened};
+use daf::{Daf, Family};
 use refusal::Refusal;
-use streams::Input;
 
 // A number and a space.
 fn put(rt: &HostRuntime, n: u64) {
@@ -30,8 +27,8 @@ fn put_refusal(rt: &HostRuntime, refusal: Refusal) {
 fn put_opened(rt: &HostRuntime, kernel: &[u8], family: Family) {
     let opened = daf::open(kernel, family, 256);
     match opened {
-        Opened::Refused(refusal) => put_refusal(rt, refusal),
-        Opened::Accepted(d) => {
+        Err(refusal) => put_refusal(rt, refusal),
+        Ok(d) => {
             let first = d.first;
             put(rt, first as u64);
             put(rt, d.records as u64);
@@ -43,24 +40,20 @@ fn put_opened(rt: &HostRuntime, kernel: &[u8], family: Family) {
 
 // The kernels of the input. A last one that is cut short is not opened.
 fn replay(rt: &HostRuntime, s: &[u8]) {
-    let mut at: usize = 0;
-    while at + 4 <= s.len() {
-        let len = bits::le_u32(s, at) as usize;
-        at += 4;
-        if s.len() - at < len {
+    let mut rest = s;
+    while let Some((len, after)) = rest.split_first_chunk::<4>() {
+        let Some((kernel, next)) = after.split_at_checked(u32::from_le_bytes(*len) as usize) else {
             return;
-        }
-        let end = at + len;
-        put_opened(rt, &s[at..end], Family::Spk);
-        put_opened(rt, &s[at..end], Family::Pck);
-        at = end;
+        };
+        put_opened(rt, kernel, Family::Spk);
+        put_opened(rt, kernel, Family::Pck);
+        rest = next;
     }
 }
 
 fn main(rt: HostRuntime) {
     let mut buf = [0u8; 196608];
-    let input = streams::read_standard(&rt, &mut buf);
-    if let Input::Bytes(n) = input {
+    if let Some(n) = streams::read_standard(&rt, &mut buf) {
         replay(&rt, &buf[..n]);
     }
 }

@@ -3,9 +3,7 @@
 
 #![tactic(auto)]
 
-ghost use Rattle.std.specs.Prelude.{◌+◌, ◌*◌, ◌≤◌, length};
-
-use streams::Input;
+ghost use Rattle.std.specs.Prelude.{◌*◌, ◌≤◌, length};
 
 // The bits of x in 16 hexadecimal digits, after a space. A NaN has no bits of its own.
 fn show(rt: &HostRuntime, x: f64) {
@@ -20,61 +18,46 @@ fn show(rt: &HostRuntime, x: f64) {
 // A line for a window and a state.
 fn line(rt: &HostRuntime, start: usize, s: frame::State) {
     let _ = print!(rt; "{start}");
-    show(rt, s.x);
-    show(rt, s.y);
-    show(rt, s.z);
-    show(rt, s.vx);
-    show(rt, s.vy);
-    show(rt, s.vz);
+    for x in [s.x, s.y, s.z, s.vx, s.vy, s.vz] {
+        show(rt, x);
+    }
     let _ = rt.print("\n");
 }
 
-// A block of n states: the count, the type, at byte 8 the degree and at 16 the epoch; then the states and their epochs.
-fn block(rt: &HostRuntime, s: &[u8], at: usize, n: usize)
-    requires { at + 24 + 56 * n ≤ length s.now }
+// A block of n states: its head has the count, the type, from byte 8 the degree and from 16 the epoch; then come the states and their epochs.
+fn block(rt: &HostRuntime, head: &[u8; 24], states: &[u8], n: usize)
+    requires { 56 * n ≤ length states.now }
 {
-    let degree = bits::le_u64(s, at + 8);
-    let et = bits::double_at(s, at + 16);
-    if n == 0 {
+    let degree = bits::le_u64(head, 8);
+    let et = bits::double_at(head, 16);
+    if n == 0 || interp::window_size(degree, n as u64) > 32 {
         return;
     }
-    if interp::window_size(degree, n as u64) > 32 {
-        return;
-    }
-    let p = at + 24;
-    let start = interp::window_at(s, p, n, degree, et);
-    if s[at + 1] == 9 {
-        line(rt, start, interp::type9_at(s, p, n, degree, et));
+    let start = interp::window_at(states, 0, n, degree, et);
+    let s = if head[1] == 9 {
+        interp::type9_at(states, 0, n, degree, et)
     } else {
-        line(rt, start, interp::type13_at(s, p, n, degree, et));
-    }
-}
-
-// A block's first byte as a count.
-fn count(b: u8) -> usize
-    ensures { result ≤ 255 }
-{
-    b as usize
+        interp::type13_at(states, 0, n, degree, et)
+    };
+    line(rt, start, s);
 }
 
 // The blocks of the input. A last one that is cut short is not answered.
 fn replay(rt: &HostRuntime, s: &[u8]) {
-    let mut at: usize = 0;
-    while at + 24 <= s.len() {
-        let n = count(s[at]);
-        let next = at + 24 + 56 * n;
-        if s.len() < next {
+    let mut rest = s;
+    while let Some((head, after)) = rest.split_first_chunk::<24>() {
+        let n = head[0] as usize;
+        let Some((states, next)) = after.split_at_checked(56 * n) else {
             return;
-        }
-        block(rt, s, at, n);
-        at = next;
+        };
+        block(rt, head, states, n);
+        rest = next;
     }
 }
 
 fn main(rt: HostRuntime) {
     let mut buf = [0u8; 131072];
-    let input = streams::read_standard(&rt, &mut buf);
-    if let Input::Bytes(n) = input {
+    if let Some(n) = streams::read_standard(&rt, &mut buf) {
         replay(&rt, &buf[..n]);
     }
 }

@@ -9,18 +9,17 @@
 
 ghost use Rattle.std.specs.Prelude.{◌≡◌, ◌+◌, ◌*◌, ◌<◌, ◌≤◌, length};
 ghost use Rattle.io.specs.Counts.{IsPrefixLen};
-ghost use Rattle.daf.specs.declared.Family.TheVariants.{Spk, Pck};
 ghost use Rattle.table.specs.Places.{lent_limit};
 ghost use Rattle.opening.specs.Steps.{plan_of};
 
 use daf::Family;
 use frame::{Given, State};
-use opening::{Outcome, Plan};
+use lines::Page;
+use opening::Plan;
 use pck::Oriented;
 use refusal::Refusal;
 use segment::Segment;
 use spk::{Answer, Asked, Memory, Way};
-use streams::Input;
 use table::Table;
 
 // The bytes of a kernel that are read: room for 4,096 segments.
@@ -72,10 +71,10 @@ fn answered(rt: &HostRuntime, way: Way) -> bool {
 }
 
 // The same of an orientation.
-fn oriented(rt: &HostRuntime, outcome: pck::Outcome) -> bool {
+fn oriented(rt: &HostRuntime, outcome: Result<(), Refusal>) -> bool {
     match outcome {
-        pck::Outcome::Turned => true,
-        pck::Outcome::Refused(_) => {
+        Ok(()) => true,
+        Err(_) => {
             streams::complain(rt, b"measure: an orientation was refused\n");
             false
         }
@@ -85,40 +84,24 @@ fn oriented(rt: &HostRuntime, outcome: pck::Outcome) -> bool {
 // Opens the kernel by value.
 fn open(kernel: &[u8], passes: u64) -> State {
     let mut sum = State::zero();
-    let mut i: u64 = 0;
-    while i < passes {
+    for _ in 0..passes {
         let opened = owned::open(kernel, Family::Spk);
         let t = opened.table;
         let s = t.segments[0];
         sum.x = sum.x + s.last;
-        i += 1;
     }
     sum
 }
 
-// The usage file was added up; where not, a line on the error output says so.
-fn added(rt: &HostRuntime, outcome: tally::Outcome) -> bool {
-    match outcome {
-        tally::Outcome::Stated => true,
-        tally::Outcome::Refused(_) => {
-            streams::complain(rt, b"measure: the usage file was refused\n");
-            false
-        }
-    }
-}
-
-// Adds up a usage file.
+// Adds up a usage file. Where it is refused, a line on the error output says so.
 fn add(rt: &HostRuntime, usage: &[u8], passes: u64) -> State {
     let mut sum = State::zero();
-    let mut i: u64 = 0;
-    while i < passes {
-        let s = tally::add_up(usage);
-        let outcome = s.outcome;
-        if !added(rt, outcome) {
+    for _ in 0..passes {
+        let Ok(s) = tally::add_up(usage) else {
+            streams::complain(rt, b"measure: the usage file was refused\n");
             return sum;
-        }
-        sum.x = sum.x + std::num::nearest_u64_to_f64(s.counts[0]);
-        i += 1;
+        };
+        sum.x = sum.x + std::num::nearest_u64_to_f64(s.lines[0].count);
     }
     sum
 }
@@ -137,10 +120,9 @@ fn ask(
     if n == 0 {
         return sum;
     }
-    let mut memory = Memory::Blank;
+    let mut memory = None;
     let mut at: usize = 0;
-    let mut i: u64 = 0;
-    while i < passes {
+    for _ in 0..passes {
         let q = spk_question(asked, at);
         let r = owned::state(kernel, table, memory, q);
         let answer = r.answer;
@@ -155,7 +137,6 @@ fn ask(
             memory = r.memory;
         }
         at = next(at, n);
-        i += 1;
     }
     sum
 }
@@ -168,8 +149,7 @@ fn orient(rt: &HostRuntime, kernel: &[u8], table: Table, asked: &[u8], passes: u
         return sum;
     }
     let mut at: usize = 0;
-    let mut i: u64 = 0;
-    while i < passes {
+    for _ in 0..passes {
         let q = pck_question(asked, at);
         let r = owned::orient(kernel, table, q);
         let outcome = r.outcome;
@@ -179,7 +159,6 @@ fn orient(rt: &HostRuntime, kernel: &[u8], table: Table, asked: &[u8], passes: u
         let angles = r.angles;
         sum = sum.plus(angles);
         at = next(at, n);
-        i += 1;
     }
     sum
 }
@@ -206,9 +185,9 @@ fn begin() -> Sums {
 // The memory made anew from its number: nothing of the last answer is then waited for but that.
 fn memory_in(run: Sums) -> Memory {
     if run.kept < Table::LENT {
-        Memory::Kept(run.kept)
+        Some(run.kept)
     } else {
-        Memory::Blank
+        None
     }
 }
 
@@ -260,7 +239,7 @@ fn with_answer(run: Sums, r: Asked, forget: bool) -> Sums {
     let kept = if forget {
         Table::LENT
     } else {
-        spk::place_kept(memory, Table::LENT)
+        memory.unwrap_or(Table::LENT)
     };
     let given = answer.given;
     let state = given.state;
@@ -273,10 +252,10 @@ fn with_answer(run: Sums, r: Asked, forget: bool) -> Sums {
     }
 }
 
-fn not_turned(outcome: pck::Outcome) -> u64 {
+fn not_turned(outcome: Result<(), Refusal>) -> u64 {
     match outcome {
-        pck::Outcome::Turned => 0,
-        pck::Outcome::Refused(_) => 1,
+        Ok(()) => 0,
+        Err(_) => 1,
     }
 }
 
@@ -292,14 +271,6 @@ fn with_angles(run: Sums, r: Oriented) -> Sums {
         refused: refused,
         sum: total,
     }
-}
-
-// The pass after this one.
-fn next_pass(i: usize, passes: usize) -> usize
-    requires { i < passes }
-    ensures { (i < result) × (result ≤ passes) }
-{
-    i + 1
 }
 
 // What stands for an answer where nothing is asked. Nobody can tell its way beforehand, so that the loop is that of a question.
@@ -321,25 +292,38 @@ fn unasked(q: spk::Question, kept: Memory) -> Asked {
     }
 }
 
-// Goes through the questions as `ask_lent` does, and asks none.
-fn nothing(rt: &HostRuntime, asked: &[u8], m: usize) -> State {
-    let p = asked.len() / 18;
+// Puts the next of p questions in each of m passes, with what is remembered.
+fn put_each<F: Fn(Memory, spk::Question) -> Asked>(
+    rt: &HostRuntime,
+    asked: &[u8],
+    p: usize,
+    forget: bool,
+    m: usize,
+    ask: F,
+) -> State
+    requires questions { (0 < p) × (18 * p ≤ length asked.now) }
+    requires callable { F.IsAlwaysCallable ask }
+{
     let mut run = begin();
-    let mut i: usize = 0;
-    if p == 0 {
-        return sum_in(rt, run);
-    }
-    while i < m {
+    for i in 0..m {
         let q = spk_asked(asked, i, p);
         let k = memory_in(run);
-        let r = unasked(q, k);
-        run = with_answer(run, r, false);
-        i = next_pass(i, m);
+        let r = ask(k, q);
+        run = with_answer(run, r, forget);
     }
     sum_in(rt, run)
 }
 
-// Asks an SPK.
+// Goes through the questions as `ask_lent` does, and asks none.
+fn nothing(rt: &HostRuntime, asked: &[u8], m: usize) -> State {
+    let p = asked.len() / 18;
+    if p == 0 {
+        return State::zero();
+    }
+    put_each(rt, asked, p, false, m, |k, q| unasked(q, k))
+}
+
+// Asks an SPK. The loop is written out: through `put_each` the compiler clears the place of each answer first, which would count for the answers.
 fn ask_lent(
     rt: &HostRuntime,
     kernel: &[u8],
@@ -353,41 +337,11 @@ fn ask_lent(
     requires { (0 < p) × (18 * p ≤ length asked.now) }
 {
     let mut run = begin();
-    let mut i: usize = 0;
-    while i < m {
+    for i in 0..m {
         let q = spk_asked(asked, i, p);
         let k = memory_in(run);
         let r = lent::state(kernel, table, n, k, q);
         run = with_answer(run, r, forget);
-        let next = next_pass(i, m);
-        i = next;
-    }
-    sum_in(rt, run)
-}
-
-// The same through an index.
-fn ask_indexed(
-    rt: &HostRuntime,
-    kernel: &[u8],
-    table: &[Segment],
-    ix: &[u16],
-    asked: &[u8],
-    n: usize,
-    p: usize,
-    forget: bool,
-    m: usize,
-) -> State
-    requires { (0 < p) × (18 * p ≤ length asked.now) }
-{
-    let mut run = begin();
-    let mut i: usize = 0;
-    while i < m {
-        let q = spk_asked(asked, i, p);
-        let k = memory_in(run);
-        let r = indexed::state(kernel, table, ix, n, k, q);
-        run = with_answer(run, r, forget);
-        let next = next_pass(i, m);
-        i = next;
     }
     sum_in(rt, run)
 }
@@ -405,27 +359,12 @@ fn orient_lent(
     requires { (0 < p) × (14 * p ≤ length asked.now) }
 {
     let mut run = begin();
-    let mut i: usize = 0;
-    while i < m {
+    for i in 0..m {
         let q = pck_asked(asked, i, p);
         let r = lent::orient(kernel, table, n, q);
         run = with_angles(run, r);
-        let next = next_pass(i, m);
-        i = next;
     }
     sum_in(rt, run)
-}
-
-fn spk_family() -> Family
-    ensures { result ≡ Spk }
-{
-    Family::Spk
-}
-
-fn pck_family() -> Family
-    ensures { result ≡ Pck }
-{
-    Family::Pck
 }
 
 // The plan of the opening; a refusal is said on the error output.
@@ -433,7 +372,7 @@ fn planned(rt: &HostRuntime, kernel: &[u8], family: Family) -> Plan
     ensures { result ≡ plan_of family lent_limit kernel.now }
 {
     let p = opening::plan_of(kernel, family, Table::LENT);
-    if let Plan::Refuse(_) = p {
+    if p.is_err() {
         streams::complain(rt, b"measure: the kernel was refused\n");
     }
     p
@@ -450,11 +389,10 @@ fn lend_spk(
 ) -> State
     requires { (0 < p) × (18 * p ≤ length asked.now) }
 {
-    let f = spk_family();
     let e = table::no_segment();
     let mut t = [e; Table::LENT];
-    let y = planned(rt, kernel, f);
-    lent::carry_out(&mut t, kernel, f, y);
+    let y = planned(rt, kernel, Family::Spk);
+    lent::carry_out(&mut t, kernel, Family::Spk, y);
     let n = opening::count_in(y);
     ask_lent(rt, kernel, &t, asked, n, p, forget, passes)
 }
@@ -471,24 +409,25 @@ fn lend_indexed(
 ) -> State
     requires { (0 < p) × (18 * p ≤ length asked.now) }
 {
-    let f = spk_family();
     let e = table::no_segment();
     let mut t = [e; Table::LENT];
-    let y = planned(rt, kernel, f);
-    indexed::carry_out(&mut t, ix, kernel, f, y);
+    let y = planned(rt, kernel, Family::Spk);
+    indexed::carry_out(&mut t, ix, kernel, Family::Spk, y);
     let n = opening::count_in(y);
-    ask_indexed(rt, kernel, &t, ix, asked, n, p, forget, passes)
+    let (table, ix) = (&t, &*ix);
+    put_each(rt, asked, p, forget, passes, |k, q| {
+        indexed::state(kernel, table, ix, n, k, q)
+    })
 }
 
 // Opens a PCK into a table of 4,096 places, and asks it.
 fn lend_pck(rt: &HostRuntime, kernel: &[u8], asked: &[u8], p: usize, passes: usize) -> State
     requires { (0 < p) × (14 * p ≤ length asked.now) }
 {
-    let f = pck_family();
     let e = table::no_segment();
     let mut t = [e; Table::LENT];
-    let y = planned(rt, kernel, f);
-    lent::carry_out(&mut t, kernel, f, y);
+    let y = planned(rt, kernel, Family::Pck);
+    lent::carry_out(&mut t, kernel, Family::Pck, y);
     let n = opening::count_in(y);
     orient_lent(rt, kernel, &t, asked, n, p, passes)
 }
@@ -500,11 +439,9 @@ fn open_lent(rt: &HostRuntime, kernel: &[u8], asked: &[u8], passes: u64) -> Stat
     if p == 0 {
         return sum;
     }
-    let mut i: u64 = 0;
-    while i < passes {
+    for _ in 0..passes {
         let s = lend_spk(rt, kernel, asked, p, true, 1);
         sum = sum.plus(s);
-        i += 1;
     }
     sum
 }
@@ -517,11 +454,9 @@ fn open_indexed(rt: &HostRuntime, kernel: &[u8], asked: &[u8], passes: u64) -> S
         return sum;
     }
     let mut ix = [0u16; 16384];
-    let mut i: u64 = 0;
-    while i < passes {
+    for _ in 0..passes {
         let s = lend_indexed(rt, kernel, asked, &mut ix, p, true, 1);
         sum = sum.plus(s);
-        i += 1;
     }
     sum
 }
@@ -573,11 +508,9 @@ fn through_index(mode: &[u8]) -> bool {
 
 // The number that a text of at most nine digits writes.
 fn number(text: &[u8]) -> u64 {
-    let mut n: u64 = 0;
-    let mut i: usize = 0;
-    while i < text.len() && i < 9 {
-        n = (10 * n + digit(text[i])) % 1000000000;
-        i += 1;
+    let mut n = 0;
+    for b in text.iter().take(9) {
+        n = (10 * n + digit(*b)) % 1000000000;
     }
     n
 }
@@ -602,7 +535,7 @@ fn over(rt: &HostRuntime, kernel: &[u8], asked: &[u8], mode: &[u8], passes: u64)
     let opened = owned::open(kernel, family);
     let outcome = opened.outcome;
     let table = opened.table;
-    if let Outcome::Refused(_) = outcome {
+    if outcome.is_err() {
         streams::complain(rt, b"measure: the kernel was refused\n");
         return State::zero();
     }
@@ -645,7 +578,12 @@ fn run(rt: &HostRuntime, kernel: &[u8], asked: &[u8], mode: &[u8], passes: u64) 
 // Writes the sum.
 fn write_sum(rt: &HostRuntime, sum: State) {
     let mut line = [0u8; 102];
-    let n = lines::put_state(&mut line, 0, sum);
+    let mut page = Page {
+        out: &mut line,
+        at: 0,
+    };
+    page.put_state(sum);
+    let n = page.at;
     streams::write(rt, &line, n);
     streams::write(rt, b"\n", 1);
 }
@@ -654,11 +592,7 @@ fn write_sum(rt: &HostRuntime, sum: State) {
 fn load(rt: &HostRuntime, i: usize, what: &[u8], buf: &mut [u8]) -> usize
     ensures { IsPrefixLen result buf.new }
 {
-    let input = streams::read_argument(rt, i, what, buf);
-    match input {
-        Input::Bytes(n) => n,
-        Input::Unreadable => 0,
-    }
+    streams::read_argument(rt, i, what, buf).unwrap_or(0)
 }
 
 fn main(rt: HostRuntime) {

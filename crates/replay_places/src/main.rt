@@ -7,15 +7,14 @@
 
 #![tactic(auto)]
 
-ghost use Rattle.std.specs.Prelude.{◌≡◌, ◌≤◌, length};
+ghost use Rattle.std.specs.Prelude.{◌≡◌, ◌≤◌, length, None};
 ghost use Rattle.daf.specs.declared.Family.TheVariants.{Spk};
-ghost use Rattle.spk.specs.declared.Memory.TheVariants.{Blank};
 
 use daf::Family;
-use opening::{Opened, Outcome, Plan};
+use lines::Page;
+use opening::{Opened, Plan};
 use segment::Segment;
 use spk::{Asked, Memory, Question, Way};
-use streams::Input;
 
 // ---- what the places hold
 
@@ -38,12 +37,9 @@ fn digest(table: &[Segment], m: usize) -> f64
 {
     let mut sum = zero();
     let mut x = zero();
-    let mut i: usize = 0;
-    while i < m {
-        let s = lent::segment_at(table, i);
+    for s in &table[..m] {
         x = next(x);
-        sum = added(sum, x, s);
-        i = i + 1;
+        sum = added(sum, x, *s);
     }
     sum
 }
@@ -57,9 +53,9 @@ fn family() -> Family
 }
 
 fn no_memory() -> Memory
-    ensures { result ≡ Blank }
+    ensures { result ≡ None }
 {
-    Memory::Blank
+    None
 }
 
 // Where the target of segment 0 is.
@@ -83,8 +79,8 @@ fn too_many() -> usize {
 // The number of a plan's segments, or of its refusal.
 fn came_to(p: Plan) -> usize {
     match p {
-        Plan::Fill(n, _) => n,
-        Plan::Refuse(refusal) => refusal.number() as usize,
+        Ok(f) => f.count,
+        Err(refusal) => refusal.number() as usize,
     }
 }
 
@@ -104,7 +100,12 @@ fn refused_by(a: Asked) -> u32 {
 // Writes a number.
 fn write_decimal(rt: &HostRuntime, x: u64) {
     let mut line = [0u8; 21];
-    let n = lines::put_decimal(&mut line, 0, x);
+    let mut page = Page {
+        out: &mut line,
+        at: 0,
+    };
+    page.put_decimal(x);
+    let n = page.at;
     streams::write(rt, &line, n);
 }
 
@@ -117,7 +118,12 @@ fn write_number(rt: &HostRuntime, x: u64) {
 // Writes a space and the bits of a number.
 fn write_bits(rt: &HostRuntime, x: f64) {
     let mut line = [0u8; 17];
-    let n = lines::put_number(&mut line, 0, x);
+    let mut page = Page {
+        out: &mut line,
+        at: 0,
+    };
+    page.put_number(x);
+    let n = page.at;
     streams::write(rt, &line, n);
 }
 
@@ -163,16 +169,16 @@ fn tell(rt: &HostRuntime, kernel: &[u8], table: &[Segment], p: Plan, q: Plan) {
 fn opened_to(o: Opened) -> usize {
     let outcome = o.outcome;
     match outcome {
-        Outcome::Accepted => o.table.count,
-        Outcome::Refused(refusal) => refusal.number() as usize,
+        Ok(()) => o.table.count,
+        Err(refusal) => refusal.number() as usize,
     }
 }
 
 // 0 where nothing is remembered.
 fn remembered(m: Memory) -> u64 {
     match m {
-        Memory::Blank => 0,
-        Memory::Kept(_) => 1,
+        None => 0,
+        Some(_) => 1,
     }
 }
 
@@ -264,8 +270,7 @@ fn lend_all(rt: &HostRuntime, first: &[u8], second: &[u8]) {
 // Reads kernel j.
 fn with_second(rt: &HostRuntime, first: &[u8], j: usize) {
     let mut buf = [0u8; ROOM];
-    let input = streams::read_argument(rt, j, b"KERNEL", &mut buf);
-    if let Input::Bytes(n) = input {
+    if let Some(n) = streams::read_argument(rt, j, b"KERNEL", &mut buf) {
         lend_all(rt, first, &buf[..n]);
     }
 }
@@ -273,8 +278,7 @@ fn with_second(rt: &HostRuntime, first: &[u8], j: usize) {
 // Opens kernel i and then kernel j.
 fn pair(rt: &HostRuntime, i: usize, j: usize) {
     let mut buf = [0u8; ROOM];
-    let input = streams::read_argument(rt, i, b"KERNEL", &mut buf);
-    if let Input::Bytes(n) = input {
+    if let Some(n) = streams::read_argument(rt, i, b"KERNEL", &mut buf) {
         with_second(rt, &buf[..n], j);
     }
 }
@@ -282,8 +286,7 @@ fn pair(rt: &HostRuntime, i: usize, j: usize) {
 // Opens kernel i by value.
 fn one(rt: &HostRuntime, i: usize) {
     let mut buf = [0u8; ROOM];
-    let input = streams::read_argument(rt, i, b"KERNEL", &mut buf);
-    if let Input::Bytes(n) = input {
+    if let Some(n) = streams::read_argument(rt, i, b"KERNEL", &mut buf) {
         tell_owned(rt, &buf[..n]);
     }
 }

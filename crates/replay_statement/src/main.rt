@@ -3,9 +3,7 @@
 
 #![tactic(auto)]
 
-ghost use Rattle.std.specs.Prelude.{◌+◌, ◌≤◌, length};
-
-use streams::Input;
+ghost use Rattle.std.specs.Prelude.{◌<◌, length, IfSome};
 
 // Writes the output for one usage file.
 fn write_output(rt: &HostRuntime, usage: &[u8]) {
@@ -14,37 +12,27 @@ fn write_output(rt: &HostRuntime, usage: &[u8]) {
     streams::write(rt, &out, end);
 }
 
-// Replays the block at `at` and answers where the next one starts.
-fn replay_block(rt: &HostRuntime, s: &[u8], at: usize) -> usize
-    requires { at + 4 ≤ length s.now }
-    ensures { (at + 4 ≤ result) × (result ≤ length s.now) }
+// The usage file of the first block, and what follows the block; none where it is cut short.
+fn first_block(s: &[u8]) -> Option<(&[u8], &[u8])>
+    ensures { IfSome result (λ p. length p.1.now < length s.now) }
 {
-    let start = at + 4;
-    let next = start + bits::le_u32(s, at) as usize;
-    if s.len() < next {
-        streams::complain(rt, b"a block is cut short\n");
-        return s.len();
-    }
-    write_output(rt, &s[start..next]);
-    next
+    let (len, after) = s.split_first_chunk::<4>()?;
+    after.split_at_checked(u32::from_le_bytes(*len) as usize)
 }
 
 // Replays the blocks of a file.
 fn replay(rt: &HostRuntime, s: &[u8]) {
-    let mut at: usize = 0;
-    while at < s.len() {
-        if s.len() - at < 4 {
+    let mut rest = s;
+    while !rest.is_empty() {
+        let Some((usage, next)) = first_block(rest) else {
             streams::complain(rt, b"a block is cut short\n");
             return;
-        }
-        at = replay_block(rt, s, at);
+        };
+        write_output(rt, usage);
+        rest = next;
     }
 }
 
 fn main(rt: HostRuntime) {
-    let mut buf = [0u8; streams::ROOM];
-    let input = streams::read_argument(&rt, 1, b"FILES", &mut buf);
-    if let Input::Bytes(n) = input {
-        replay(&rt, &buf[..n]);
-    }
+    streams::with_argument(&rt, 1, b"FILES", |s| replay(&rt, s));
 }

@@ -6,8 +6,6 @@
 ghost use Rattle.std.specs.Prelude.{◌≤◌, ◌+◌, length};
 ghost use Rattle.streams.specs.Input.{input_limit};
 
-use streams::Input;
-
 const ROOM: usize = 200000;
 
 // Writes the reply of a kernel of any length, at once.
@@ -19,27 +17,18 @@ fn print(rt: &HostRuntime, kernel: &[u8], asked: &[u8])
     streams::write(rt, &out, end);
 }
 
-// Reads the questions.
-fn with_questions(rt: &HostRuntime, kernel: &[u8]) {
-    let mut buf = [0u8; streams::ROOM];
-    let input = streams::read_argument(rt, 2, b"QUESTIONS", &mut buf);
-    if let Input::Bytes(n) = input {
-        print(rt, kernel, &buf[..n]);
-    }
-}
-
-// Reads the kernel.
-fn with_kernel(rt: &HostRuntime) {
+// Reads the kernel, which may be longer than a program takes, then the questions.
+fn reply(rt: &HostRuntime) {
     let mut buf = [0u8; ROOM];
-    let input = streams::read_argument(rt, 1, b"KERNEL", &mut buf);
-    if let Input::Bytes(n) = input {
-        with_questions(rt, &buf[..n]);
+    if let Some(n) = streams::read_argument(rt, 1, b"KERNEL", &mut buf) {
+        let kernel = &buf[..n];
+        streams::with_argument(rt, 2, b"QUESTIONS", |asked| print(rt, kernel, asked));
     }
 }
 
 fn main(rt: HostRuntime) {
     if streams::argument_count(&rt) == 3 {
-        with_kernel(&rt);
+        reply(&rt);
     } else {
         streams::complain(&rt, b"usage: replay_wide KERNEL QUESTIONS\n");
     }

@@ -14,7 +14,7 @@ use Rattle.refusal.specs.declared.Refusal.TheVariants.{ZeroRadius, EmptyWindow}
 use Rattle.frame.specs.declared.State.{State}
 use Rattle.daf.specs.Addresses.{byte_of}
 use Rattle.cheby.specs.declared.Chosen.{Chosen}
-use Rattle.cheby.specs.declared.Cheby.TheVariants.{Value, NoRadius}
+use Rattle.std.proofs.Common.{Some, None, Ok, Err}
 use Rattle.cheby.specs.Cheby.{record_for, reach_for, chosen_for, unless_zero, record2, type2_of, type3_of}
 use Rattle.interp.specs.Window.{window_size}
 use Rattle.interp.specs.Discrete.{reach_at, type9_of, type13_of}
@@ -25,7 +25,6 @@ use Rattle.segment.specs.declared.Kind.TheVariants.{Type2, Type3, Type9, Type13}
 use Rattle.segment.specs.declared.Trailer.{Trailer}
 use Rattle.segment.specs.declared.Place.{Place}
 use Rattle.segment.specs.declared.Valued.{Valued}
-use Rattle.segment.specs.declared.Evaluated.TheVariants.{State as Answer, Refused}
 
 -- ---- the record for et
 
@@ -44,20 +43,20 @@ chosen_ends t et x e h = record_ends t.size x.number t.count (rw e (record_below
 
 -- ---- RADIUS
 
-refused_is : (b : Bool) (a : State) → unless_zero b a ≡ NoRadius → b ≡ true
+refused_is : (b : Bool) (a : State) → unless_zero b a ≡ None → b ≡ true
 refused_is true a e = refl
 refused_is false a e = let z : ◌≡◌ {A = ℕ} 0 1 = cc in absurd (omega arith)
 
-value_is : (b : Bool) (a s : State) → unless_zero b a ≡ Value s → b ≡ false
+value_is : (b : Bool) (a s : State) → unless_zero b a ≡ Some s → b ≡ false
 value_is true a s e = let z : ◌≡◌ {A = ℕ} 0 1 = cc in absurd (omega arith)
 value_is false a s e = refl
 
 -- a record is refused where its RADIUS is zero
-pub radius_zero_lem : (k : List ℕ) (p n : ℕ) (et : Float) → type2_of k p n et ≡ NoRadius → radius_zero k p ≡ true
+pub radius_zero_lem : (k : List ℕ) (p n : ℕ) (et : Float) → type2_of k p n et ≡ None → radius_zero k p ≡ true
 unfolding record2
 radius_zero_lem k p n et e = refused_is (radius_zero k p) _ e
 
-pub radius_some : (k : List ℕ) (p n : ℕ) (et : Float) (s : State) → type2_of k p n et ≡ Value s → radius_zero k p ≡ false
+pub radius_some : (k : List ℕ) (p n : ℕ) (et : Float) (s : State) → type2_of k p n et ≡ Some s → radius_zero k p ≡ false
 unfolding record2
 radius_some k p n et s e = value_is (radius_zero k p) _ s e
 
@@ -81,34 +80,34 @@ place_made a t et x b e q = λ i. record { byte = byte_of a + 8 * (t.size * (e i
 
 module _ (k : List ℕ) (a i : ℕ) (et : Float) where
   module _ (init intlen : Float) (rsize n p c : ℕ) (at : p ≡ record_byte a init intlen rsize n et) where
-    pub two_refused : c ≡ coefficients 3 rsize → type2_of k p c et ≡ NoRadius → Refused (ZeroRadius i) ≡ valued k a (Type2 init intlen rsize n) i et
+    pub two_refused : c ≡ coefficients 3 rsize → type2_of k p c et ≡ None → Err (ZeroRadius i) ≡ valued k a (Type2 init intlen rsize n) i et
     unfolding valued zero_radius empty_window
     two_refused q e = rw (rw at at (radius_zero_lem k p c et e))
 
     -- the state, and where et falls beside the records
     module _ (s : State) (b : Bool) (reach : b ≡ is_stretched (reach_for init intlen et n)) where
-      pub two_answered : c ≡ coefficients 3 rsize → type2_of k p c et ≡ Value s → Answer (record { state = s; stretched = b }) ≡ valued k a (Type2 init intlen rsize n) i et
+      pub two_answered : c ≡ coefficients 3 rsize → type2_of k p c et ≡ Some s → Ok (record { state = s; stretched = b }) ≡ valued k a (Type2 init intlen rsize n) i et
       unfolding valued zero_radius empty_window state_at reach_by
-      two_answered q e = rw (rw at at (radius_some k p c et s e)) (ap Answer (valued_eq _ _ (sym (ap state_in (rw (at, q) at e))) reach))
+      two_answered q e = rw (rw at at (radius_some k p c et s e)) (ap Ok (valued_eq _ _ (sym (ap state_in (rw (at, q) at e))) reach))
 
-      pub three_answered : c ≡ coefficients 6 rsize → s ≡ type3_of k p c et → Answer (record { state = s; stretched = b }) ≡ valued k a (Type3 init intlen rsize n) i et
+      pub three_answered : c ≡ coefficients 6 rsize → s ≡ type3_of k p c et → Ok (record { state = s; stretched = b }) ≡ valued k a (Type3 init intlen rsize n) i et
       unfolding valued zero_radius empty_window state_at reach_by
-      three_answered q e = ap Answer (valued_eq _ _ (rw (at, q) at e) reach)
+      three_answered q e = ap Ok (valued_eq _ _ (rw (at, q) at e) reach)
 
-  pub nine_refused : (d n : ℕ) → eqb (window_size d n) 0 ≡ true → Refused (EmptyWindow i) ≡ valued k a (Type9 d n) i et
+  pub nine_refused : (d n : ℕ) → eqb (window_size d n) 0 ≡ true → Err (EmptyWindow i) ≡ valued k a (Type9 d n) i et
   unfolding valued zero_radius empty_window
   nine_refused d n e = rw e
 
-  pub thirteen_refused : (d n : ℕ) → eqb (window_size d n) 0 ≡ true → Refused (EmptyWindow i) ≡ valued k a (Type13 d n) i et
+  pub thirteen_refused : (d n : ℕ) → eqb (window_size d n) 0 ≡ true → Err (EmptyWindow i) ≡ valued k a (Type13 d n) i et
   unfolding valued zero_radius empty_window
   thirteen_refused d n e = rw e
 
   -- the state, and where et falls beside the epochs
   module _ (d n : ℕ) (some : eqb (window_size d n) 0 ≡ false) (s : State) (r : Reach) (b : Bool) (at : r ≡ reach_at k (byte_of a) n et) (reach : b ≡ is_stretched r) where
-    pub nine_answered : s ≡ type9_of k (byte_of a) n d et → Answer (record { state = s; stretched = b }) ≡ valued k a (Type9 d n) i et
+    pub nine_answered : s ≡ type9_of k (byte_of a) n d et → Ok (record { state = s; stretched = b }) ≡ valued k a (Type9 d n) i et
     unfolding valued zero_radius empty_window state_at reach_by
-    nine_answered e = rw some (ap Answer (valued_eq _ _ e (reach ∙ ap is_stretched at)))
+    nine_answered e = rw some (ap Ok (valued_eq _ _ e (reach ∙ ap is_stretched at)))
 
-    pub thirteen_answered : s ≡ type13_of k (byte_of a) n d et → Answer (record { state = s; stretched = b }) ≡ valued k a (Type13 d n) i et
+    pub thirteen_answered : s ≡ type13_of k (byte_of a) n d et → Ok (record { state = s; stretched = b }) ≡ valued k a (Type13 d n) i et
     unfolding valued zero_radius empty_window state_at reach_by
-    thirteen_answered e = rw some (ap Answer (valued_eq _ _ e (reach ∙ ap is_stretched at)))
+    thirteen_answered e = rw some (ap Ok (valued_eq _ _ e (reach ∙ ap is_stretched at)))

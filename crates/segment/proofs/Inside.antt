@@ -1,7 +1,7 @@
 -- N never runs past the segment: what an evaluation reads lies between the segment's first double and its trailer. Assumes nothing.
 use Prim.Native.Nat.{ℕ, ◌+◌, ◌-◌, ◌*◌, ◌≤◌}
-use mathlib.Core.Path.{◌≡◌, sym, subst}
-use mathlib.Core.Bool.{true, false, true≢false}
+use mathlib.Core.Path.{◌≡◌, subst}
+use mathlib.Core.Bool.{false}
 use mathlib.Core.List.{List}
 use native.Mathlib.Omega.{arith}
 use lib.IntN.{nat_abs}
@@ -9,17 +9,17 @@ use lib.Ieee.{Float}
 use Rattle.daf.specs.Addresses.{byte_of}
 use Rattle.daf.specs.declared.Family.{Family}
 use Rattle.cheby.specs.Cheby.{record_for}
-use Rattle.segment.specs.Kinds.{form_of, handled, trailer_at, kind_with, kind_of}
+use Rattle.segment.specs.Kinds.{trailer_at, kind_with}
 use Rattle.segment.specs.Malformed.{length_of, bad_records, bad_states, bad_trailer}
 use Rattle.segment.specs.Evaluating.{unsupported, unfit, record_byte}
 use Rattle.segment.specs.declared.Form.{Form}
-use Rattle.segment.specs.declared.Form.TheVariants.{Other, Two, Three, Nine, Thirteen}
+use Rattle.segment.specs.declared.Form.TheVariants.{Two, Three, Nine, Thirteen}
 use Rattle.segment.specs.declared.Kind.{Kind}
 use Rattle.segment.specs.declared.Kind.TheVariants.{Unsupported, Type2, Type3, Type9, Type13}
 use Rattle.segment.specs.declared.Trailer.{Trailer}
 use Rattle.segment.specs.declared.Segment.{Segment}
 use Rattle.segment.proofs.AfterTests.{record_below, record_ends}
-use Rattle.segment.proofs.Fit.{records_fit_lem, states_fit, own_kind, passed_tests}
+use Rattle.segment.proofs.Fit.{records_fit_lem, states_fit, passed_tests}
 
 -- The record for et starts at byte p, at the segment's first double or after it, and ends before the trailer of four doubles.
 pub record RecordInside (a e p rsize : ℕ) : Type 0 where
@@ -46,18 +46,16 @@ record_inside series a e t et p q h =
 states_inside : (least a e : ℕ) (t : Trailer) → 1 ≤ a → a ≤ e → bad_states least t (length_of a e) ≡ false → byte_of a + 56 * t.count ≤ byte_of (e - 1)
 states_inside least a e t p q h = let long = (states_fit least t (length_of a e) h).1 in omega arith
 
-inside_form : (form : Form) (a e : ℕ) (t : Trailer) (et : Float) → handled form ≡ true → 1 ≤ a → a ≤ e → bad_trailer form t (length_of a e) ≡ false → Inside a e (kind_with form t) et
-inside_form Other a e t et y p q h = absurd (true≢false (sym y))
-inside_form Two a e t et y p q h = record_inside 3 a e t et p q h
-inside_form Three a e t et y p q h = record_inside 6 a e t et p q h
-inside_form Nine a e t et y p q h = states_inside 0 a e t p q h
-inside_form Thirteen a e t et y p q h = states_inside 1 a e t p q h
+inside_form : (form : Form) (a e : ℕ) (t : Trailer) (et : Float) → 1 ≤ a → a ≤ e → bad_trailer form t (length_of a e) ≡ false → Inside a e (kind_with form t) et
+inside_form Two a e t et p q h = record_inside 3 a e t et p q h
+inside_form Three a e t et p q h = record_inside 6 a e t et p q h
+inside_form Nine a e t et p q h = states_inside 0 a e t p q h
+inside_form Thirteen a e t et p q h = states_inside 1 a e t p q h
 
 -- **inside**: an evaluation that is not refused with 12 or 14 reads its own segment alone, whatever the table says.
 pub inside : (f : Family) (k : List ℕ) (s : Segment) (et : Float) → unsupported s.kind ≡ false → unfit f k s ≡ false
     → Inside (nat_abs s.start) (nat_abs s.end) s.kind et
-unfolding kind_of
 inside f k s et u e =
     let t = passed_tests f k s u e in
-    subst (λ (x : Kind). Inside (nat_abs s.start) (nat_abs s.end) x et) (own_kind f k s e)
-    (inside_form (form_of f s.data_type) (nat_abs s.start) (nat_abs s.end) (trailer_at k (form_of f s.data_type) (nat_abs s.end)) et t.0 t.1.from t.1.order t.2)
+    subst (λ (x : Kind). Inside (nat_abs s.start) (nat_abs s.end) x et) t.3
+    (inside_form t.0 (nat_abs s.start) (nat_abs s.end) (trailer_at k t.0 (nat_abs s.end)) et t.1.from t.1.order t.2)

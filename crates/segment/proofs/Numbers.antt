@@ -7,13 +7,6 @@ use mathlib.Core.Bool.{true, false}
 use lib.Dec.{ltb}
 use borrow.Author.Tests.{lt-ltb, le-ltb}
 
--- a record of fewer than 2 doubles has no coefficients
-pub no_coefficients : (series rsize : ℕ) → rsize < 2 → 0 ≡ (rsize - 2) / series
-no_coefficients series rsize h = sym (ap (λ (x : ℕ). x / series) (gone rsize h) ∙ zero-div series)
-  where
-    gone : (r : ℕ) → r < 2 → r - 2 ≡ 0
-    gone r h = omega arith
-
 -- the coefficients of all series are at most the record
 pub within_record : (series rsize : ℕ) → series * ((rsize - 2) / series) ≤ rsize - 2
 within_record series rsize = mul-div-le (rsize - 2) series

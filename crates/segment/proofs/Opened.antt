@@ -13,24 +13,22 @@ use Rattle.bits.specs.Same.{same}
 use Rattle.bits.proofs.Finite.{finite_number}
 use Rattle.bits.proofs.Order.{as_eq}
 use Rattle.bits.proofs.Patterns.{same_self}
-use Rattle.bits.proofs.Tests.{by_test_lem, and_both}
+use Rattle.bits.proofs.Tests.{and_both}
 use Rattle.refusal.specs.declared.Refusal.TheVariants.{TableUnfit}
 use Rattle.daf.specs.Addresses.{whole_doubles}
 use Rattle.daf.specs.declared.Family.{Family}
 use Rattle.daf.specs.declared.Summary.{Summary}
-use Rattle.segment.specs.Kinds.{form_of, handled, no_trailer, trailer_at, kind_with, kind_of, type_in, trailer_in, same_trailer, same_kind}
-use Rattle.segment.specs.Malformed.{limit_nan, misplaced, length_of, trailer_size, bad_size, bad_interval, overruns, bad_records, bad_trailer, bad_data, malformed, malformed_in, kind_in, segment_of, judged}
+use Rattle.segment.specs.Kinds.{form_of, no_trailer, trailer_at, kind_with, kind_at, kind_of, type_in, trailer_in, same_trailer, same_kind}
+use Rattle.segment.specs.Malformed.{limit_nan, misplaced, length_of, trailer_size, bad_size, bad_interval, overruns, bad_records, bad_trailer, bad_data, bad_form, malformed, malformed_in, kind_in, segment_of, judged}
 use Rattle.segment.specs.Evaluating.{unfit, evaluated}
 use Rattle.segment.specs.declared.Form.{Form}
-use Rattle.segment.specs.declared.Form.TheVariants.{Other, Two, Three, Nine, Thirteen}
+use Rattle.segment.specs.declared.Form.TheVariants.{Two, Three, Nine, Thirteen}
 use Rattle.segment.specs.declared.Kind.{Kind}
 use Rattle.segment.specs.declared.Kind.TheVariants.{Unsupported}
 use Rattle.segment.specs.declared.Trailer.{Trailer}
 use Rattle.segment.specs.declared.Segment.{Segment}
-use Rattle.segment.specs.declared.Judged.TheVariants.{Accepted, Malformed}
-use Rattle.segment.specs.declared.Evaluated.TheVariants.{Refused}
+use Rattle.std.proofs.Common.{Option, Some, None, Err}
 use Rattle.segment.proofs.Tests.{or_first, or_second}
-use Rattle.segment.proofs.Finding.{not_handled}
 use Rattle.segment.proofs.Fit.{data_right}
 use Rattle.segment.proofs.Refusals.{exactly_14}
 
@@ -63,7 +61,6 @@ interval_same series t len h =
     trailer_same t (finite_same t.init f.0) (finite_same t.intlen f.1)
 
 same_itself : (form : Form) (t : Trailer) (len : ℕ) → bad_trailer form t len ≡ false → same_kind (kind_with form t) (kind_with form t) ≡ true
-same_itself Other t len h = kind_same Unsupported (trailer_same no_trailer zero_same zero_same)
 same_itself Two t len h = kind_same (kind_with Two t) (interval_same 3 t len h)
 same_itself Three t len h = kind_same (kind_with Three t) (interval_same 6 t len h)
 same_itself Nine t len h = kind_same (kind_with Nine t) (trailer_same (trailer_in (kind_with Nine t)) zero_same zero_same)
@@ -72,29 +69,29 @@ same_itself Thirteen t len h = kind_same (kind_with Thirteen t) (trailer_same (t
 -- so is the kind that a trailer makes, where the segment is not malformed
 pub made_same : (f : Family) (k : List ℕ) (s : Segment) → malformed_in f k s ≡ false → same_kind (kind_in f k s) (kind_in f k s) ≡ true
 unfolding malformed kind_of
-made_same f k s e =
-    let form = form_of f s.data_type in
-    let t = trailer_at k form (nat_abs s.end) in
-    by_test_lem (handled form)
-    (λ y. same_itself form t (length_of (nat_abs s.start) (nat_abs s.end))
-    (or_second (ltb (length_of (nat_abs s.start) (nat_abs s.end)) (trailer_size form)) _
-    (data_right (limit_nan s.first s.last) (handled form) (misplaced (whole_doubles k) s.start s.end) (bad_data k form (nat_abs s.start) (nat_abs s.end)) e y).1))
-    (λ n. subst (λ (x : Kind). same_kind x x ≡ true) (not_handled form t n) (same_itself Other t 0 refl))
+made_same f k s e = by (form_of f s.data_type) e
+  where
+    by : (o : Option Form) → (limit_nan s.first s.last || bad_form k o s.start s.end) ≡ false → same_kind (kind_at k o (nat_abs s.end)) (kind_at k o (nat_abs s.end)) ≡ true
+    by None h = kind_same Unsupported (trailer_same no_trailer zero_same zero_same)
+    by (Some form) h =
+        same_itself form (trailer_at k form (nat_abs s.end)) (length_of (nat_abs s.start) (nat_abs s.end))
+        (or_second (ltb (length_of (nat_abs s.start) (nat_abs s.end)) (trailer_size form)) _
+        (data_right (limit_nan s.first s.last) (misplaced (whole_doubles k) s.start s.end) (bad_data k form (nat_abs s.start) (nat_abs s.end)) h).1)
 
 -- ---- what the opening accepts
 
-accepted : (m : Bool) (x s : Segment) → cond m Malformed (Accepted x) ≡ Accepted s → (m ≡ false) × (x ≡ s)
+accepted : (m : Bool) (x s : Segment) → cond m None (Some x) ≡ Some s → (m ≡ false) × (x ≡ s)
 accepted true x s e = let z : ◌≡◌ {A = ℕ} 0 1 = cc in absurd (omega arith)
 accepted false x s e = (refl, cc)
 
 -- An accepted summary is not malformed, and its segment is the definition's.
-pub judged_right : (f : Family) (k : List ℕ) (sum : Summary) (s : Segment) → judged f k sum ≡ Accepted s
+pub judged_right : (f : Family) (k : List ℕ) (sum : Summary) (s : Segment) → judged f k sum ≡ Some s
     → (malformed f k sum.first sum.last sum.data_type sum.start sum.end ≡ false) × (segment_of f k sum ≡ s)
 unfolding judged
 judged_right f k sum s e = accepted (malformed f k sum.first sum.last sum.data_type sum.start sum.end) (segment_of f k sum) s e
 
 -- Its segment fits.
-pub judged_fits : (f : Family) (k : List ℕ) (sum : Summary) (s : Segment) → judged f k sum ≡ Accepted s → unfit f k s ≡ false
+pub judged_fits : (f : Family) (k : List ℕ) (sum : Summary) (s : Segment) → judged f k sum ≡ Some s → unfit f k s ≡ false
 unfolding unfit
 judged_fits f k sum s e =
     let r = judged_right f k sum s e in
@@ -119,6 +116,6 @@ unfolding evaluated
 evaluated_data f k d i et = rw (unfit_data f k d, d.type, d.start, d.kind)
 
 -- **opened-fits**, for one segment: on the kernel that it was opened from no evaluation of it is refused with 14, whatever its mark is.
-pub opened_fits : (f : Family) (k : List ℕ) (sum : Summary) (s t : Segment) → judged f k sum ≡ Accepted s → SameData s t
-    → (i : ℕ) (et : Float) → evaluated f k t i et ≡ Refused TableUnfit → ⊥
+pub opened_fits : (f : Family) (k : List ℕ) (sum : Summary) (s t : Segment) → judged f k sum ≡ Some s → SameData s t
+    → (i : ℕ) (et : Float) → evaluated f k t i et ≡ Err TableUnfit → ⊥
 opened_fits f k sum s t e d i et h = true≢false (sym ((exactly_14 f k t i et).1 h).1 ∙ sym (unfit_data f k d) ∙ judged_fits f k sum s e)

@@ -1,7 +1,7 @@
 -- What a segment gives, over two kernels with the same doubles of it: its trailer, whether it fits, its record and its states. Assumes nothing.
 use Prim.Native.Nat.{ℕ, ◌+◌, ◌-◌, ◌*◌, ◌≤◌, ◌<◌}
 use mathlib.Core.Path.{◌≡◌, refl, sym, ap, ◌∙◌}
-use mathlib.Core.Bool.{Bool, false, ◌||◌}
+use mathlib.Core.Bool.{Bool, false, not, ◌||◌}
 use mathlib.Core.List.{List}
 use native.Mathlib.Omega.{arith}
 use lib.Dec.{ltb}
@@ -19,20 +19,20 @@ use Rattle.daf.specs.declared.Family.{Family}
 use Rattle.cheby.specs.Cheby.{record_for}
 use Rattle.cheby.proofs.Own.{type2_own, type3_own}
 use Rattle.interp.proofs.Own.{alike_whole, reach_own, type9_own, type13_own}
-use Rattle.segment.specs.Kinds.{form_of, handled, trailer_at, kind_of}
-use Rattle.segment.specs.Malformed.{limit_nan, misplaced, length_of, trailer_size, coefficients, malformed}
+use Rattle.segment.specs.Kinds.{form_of, trailer_at, kind_at, kind_of, same_kind}
+use Rattle.segment.specs.Malformed.{limit_nan, misplaced, length_of, trailer_size, coefficients, bad_form, malformed}
 use Rattle.segment.specs.Evaluating.{unfit, record_byte, zero_radius, state_in, state_at, reach_by, value_at}
 use Rattle.segment.specs.Steps.{Sound}
+use Rattle.std.proofs.Common.{Option, Some, None}
 use Rattle.segment.specs.declared.Form.{Form}
-use Rattle.segment.specs.declared.Form.TheVariants.{Other, Two, Three, Nine, Thirteen}
+use Rattle.segment.specs.declared.Form.TheVariants.{Two, Three, Nine, Thirteen}
 use Rattle.segment.specs.declared.Kind.{Kind}
 use Rattle.segment.specs.declared.Kind.TheVariants.{Unsupported, Type2, Type3, Type9, Type13}
 use Rattle.segment.specs.declared.Segment.{Segment}
 use Rattle.segment.specs.declared.Valued.{Valued}
-use Rattle.segment.proofs.Finding.{not_handled}
 use Rattle.segment.proofs.Placed.{placed}
 use Rattle.segment.proofs.AfterTests.{valued_eq}
-use Rattle.segment.proofs.Inside.{RecordInside, Inside, inside}
+use Rattle.segment.proofs.Inside.{RecordInside, Inside}
 
 -- ---- the trailer
 
@@ -40,7 +40,6 @@ module _ (k k' : List ℕ) (a e : ℕ)
     (same : (j : ℕ) → a ≤ j → j ≤ e → double_of_address k j ≡ double_of_address k' j) where
   pub trailer_own : (form : Form) → a ≤ e → trailer_size form ≤ length_of a e → trailer_at k form e ≡ trailer_at k' form e
   unfolding trailer_at
-  trailer_own Other o h = refl
   trailer_own Two o h = rw (same (e - 3) (omega arith) (omega arith), same (e - 2) (omega arith) (omega arith), same (e - 1) (omega arith) (omega arith), same e (omega arith) (omega arith))
   trailer_own Three o h = rw (same (e - 3) (omega arith) (omega arith), same (e - 2) (omega arith) (omega arith), same (e - 1) (omega arith) (omega arith), same e (omega arith) (omega arith))
   trailer_own Nine o h = rw (same (e - 1) (omega arith) (omega arith), same e (omega arith) (omega arith))
@@ -61,16 +60,16 @@ module _ (f : Family) (k k' : List ℕ) (s : Segment)
     (same : (j : ℕ) → nat_abs s.start ≤ j → j ≤ nat_abs s.end → double_of_address k j ≡ double_of_address k' j) where
   pub unfit_own : unfit f k s ≡ unfit f k' s
   unfolding unfit malformed kind_of
-  unfit_own =
-      let form = form_of f s.data_type in
-      let len = length_of (nat_abs s.start) (nat_abs s.end) in
-      let n = misplaced_own (whole_doubles k) (whole_doubles k') s.start s.end here there in
-      by_test_lem (limit_nan s.first s.last) (λ y. rw y)
-      (λ m. by_test_lem (handled form)
-      (λ y. by_test_lem (misplaced (whole_doubles k') s.start s.end) (λ p. rw (n, m, y, p))
-      (λ p. by_test_lem (ltb len (trailer_size form)) (λ q. rw (n, m, y, p, q))
-      (λ q. rw (n, trailer_own k k' (nat_abs s.start) (nat_abs s.end) same form (placed (whole_doubles k') s.start s.end p).order (ltb-false len (trailer_size form) q)))))
-      (λ y. rw (m, y, ← not_handled form (trailer_at k form (nat_abs s.end)) y, ← not_handled form (trailer_at k' form (nat_abs s.end)) y)))
+  unfit_own = by_test_lem (limit_nan s.first s.last) (λ y. rw y) (λ m. rw m (by (form_of f s.data_type)))
+    where
+      by : (o : Option Form) → (bad_form k o s.start s.end || not (same_kind (kind_at k o (nat_abs s.end)) s.kind)) ≡ (bad_form k' o s.start s.end || not (same_kind (kind_at k' o (nat_abs s.end)) s.kind))
+      by None = refl
+      by (Some form) =
+          let len = length_of (nat_abs s.start) (nat_abs s.end) in
+          let n = misplaced_own (whole_doubles k) (whole_doubles k') s.start s.end here there in
+          by_test_lem (misplaced (whole_doubles k') s.start s.end) (λ p. rw (n, p))
+          (λ p. by_test_lem (ltb len (trailer_size form)) (λ q. rw (n, p, q))
+          (λ q. rw (n, trailer_own k k' (nat_abs s.start) (nat_abs s.end) same form (placed (whole_doubles k') s.start s.end p).order (ltb-false len (trailer_size form) q))))
 
 -- ---- the record and the states
 

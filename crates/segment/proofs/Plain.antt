@@ -10,10 +10,11 @@ use lib.Ieee.{Float, nan, inf, fin, is_nan, le}
 use borrow.Author.Tests.{le-ltb, ltb-false}
 use Rattle.daf.specs.Addresses.{whole_doubles}
 use Rattle.daf.specs.declared.Family.{Family}
-use Rattle.segment.specs.Kinds.{form_of, handled, records_at, trailer_at, kind_with, kind_of, same_kind}
+use Rattle.segment.specs.Kinds.{form_of, records_at, trailer_at, kind_with, kind_at, kind_of, same_kind}
 use Rattle.segment.specs.Malformed.{limit_nan, length_of, trailer_size, bad_size, bad_interval, overruns, bad_records, bad_trailer, malformed, malformed_in, kind_in}
 use Rattle.segment.specs.Evaluating.{unsupported, unfit, evaluated}
 use Rattle.segment.specs.Steps.{valued, Records, Sound, Plain}
+use Rattle.std.proofs.Common.{Option, Some}
 use Rattle.segment.specs.declared.Form.{Form}
 use Rattle.segment.specs.declared.Form.TheVariants.{Two, Three}
 use Rattle.segment.specs.declared.Kind.{Kind}
@@ -51,20 +52,19 @@ count_small rsize n len some h =
 -- ---- a form whose data are records of so many series
 
 record OfRecords (form : Form) (series : ℕ) : Type 0 where
-  done : handled form ≡ true
   four : trailer_size form ≡ 4
   read : (k : List ℕ) (e : ℕ) → trailer_at k form e ≡ records_at k e
   tests : (t : Trailer) (len : ℕ) → bad_trailer form t len ≡ bad_records series t len
 
 of_two : OfRecords Two 3
 unfolding trailer_at
-of_two = record { done = refl; four = refl; read = λ k e. refl; tests = λ t len. refl }
+of_two = record { four = refl; read = λ k e. refl; tests = λ t len. refl }
 
 of_three : OfRecords Three 6
 unfolding trailer_at
-of_three = record { done = refl; four = refl; read = λ k e. refl; tests = λ t len. refl }
+of_three = record { four = refl; read = λ k e. refl; tests = λ t len. refl }
 
-module _ (f : Family) (k : List ℕ) (s : Segment) (form : Form) (series : ℕ) (t : Trailer) (o : OfRecords form series) (e : form_of f s.data_type ≡ form)
+module _ (f : Family) (k : List ℕ) (s : Segment) (form : Form) (series : ℕ) (t : Trailer) (o : OfRecords form series) (e : form_of f s.data_type ≡ Some form)
     (p : Plain series k s t) where
   -- the trailer that is read
   trailer_is : trailer_at k form (nat_abs s.end) ≡ t
@@ -74,13 +74,13 @@ module _ (f : Family) (k : List ℕ) (s : Segment) (form : Form) (series : ℕ) 
   no_test : malformed_in f k s ≡ false
   unfolding malformed
   no_test =
-      rw (p.limits, e, o.done, p.places, o.four, le-ltb (length_of (nat_abs s.start) (nat_abs s.end)) 4 (omega (arith, (records_fit_lem series t _ p.numbers).1)), trailer_is, o.tests t (length_of (nat_abs s.start) (nat_abs s.end)), p.numbers)
+      rw (p.limits, e, p.places, o.four, le-ltb (length_of (nat_abs s.start) (nat_abs s.end)) 4 (omega (arith, (records_fit_lem series t _ p.numbers).1)), trailer_is, o.tests t (length_of (nat_abs s.start) (nat_abs s.end)), p.numbers)
 
   -- and the kind is the trailer's
   plain_fits : s.kind ≡ kind_with form t → unfit f k s ≡ false
   unfolding unfit kind_of
   plain_fits q =
-      let same : kind_in f k s ≡ s.kind = ap (λ (x : Form). kind_with x (trailer_at k x (nat_abs s.end))) e ∙ ap (kind_with form) trailer_is ∙ sym q in
+      let same : kind_in f k s ≡ s.kind = ap (λ (x : Option Form). kind_at k x (nat_abs s.end)) e ∙ ap (kind_with form) trailer_is ∙ sym q in
       rw (no_test, subst (λ (x : Kind). same_kind (kind_in f k s) x ≡ true) same (made_same f k s no_test))
 
 -- ---- what evaluating it needs
@@ -108,8 +108,8 @@ module _ (f : Family) (k : List ℕ) (s : Segment) (t : Trailer) where
         behind = λ a i et e. ap (λ (x : Kind). valued k a x i et) (sym q) ∙ evaluated_valued f k s i et a e supported fits;
       }
 
-  pub two_fits : form_of f s.data_type ≡ Two → s.kind ≡ kind_with Two t → Plain 3 k s t → Fitting f k s Two 3 t
+  pub two_fits : form_of f s.data_type ≡ Some Two → s.kind ≡ kind_with Two t → Plain 3 k s t → Fitting f k s Two 3 t
   two_fits e q p = fitted Two 3 p q refl (plain_fits f k s Two 3 t of_two e p q) (λ r. r)
 
-  pub three_fits : form_of f s.data_type ≡ Three → s.kind ≡ kind_with Three t → Plain 6 k s t → Fitting f k s Three 6 t
+  pub three_fits : form_of f s.data_type ≡ Some Three → s.kind ≡ kind_with Three t → Plain 6 k s t → Fitting f k s Three 6 t
   three_fits e q p = fitted Three 6 p q refl (plain_fits f k s Three 6 t of_three e p q) (λ r. r)

@@ -23,14 +23,13 @@ use Rattle.segment.specs.Steps.{Sound}
 use Rattle.segment.specs.declared.Kind.{Kind}
 use Rattle.segment.specs.declared.Kind.TheVariants.{Unsupported, Type2, Type3, Type9, Type13}
 use Rattle.segment.specs.declared.Segment.{Segment}
-use Rattle.segment.specs.declared.Judged.TheVariants.{Accepted, Malformed}
+use Rattle.std.proofs.Common.{Some, None as Malformed, Result, Ok, Err}
 use Rattle.segment.specs.declared.Valued.{Valued}
-use Rattle.segment.specs.declared.Evaluated.TheVariants.{State as Answer, Refused}
 use Rattle.segment.proofs.Fit.{fitting}
 
 -- ---- 9
 
-malformed_only : (m : Bool) (s : Segment) → cond m Malformed (Accepted s) ≡ Malformed → m ≡ true
+malformed_only : (m : Bool) (s : Segment) → cond m Malformed (Some s) ≡ Malformed → m ≡ true
 malformed_only true s e = refl
 malformed_only false s e = let z : ◌≡◌ {A = ℕ} 0 1 = cc in absurd (omega arith)
 
@@ -42,57 +41,57 @@ exactly_9 f k s = (λ e. rw e, λ e. malformed_only (malformed f k s.first s.las
 
 -- ---- 12, 14, 13, 16
 
-one_refusal : (r s : Refusal) → Refused r ≡ Refused s → r ≡ s
+one_refusal : (r s : Refusal) → ◌≡◌ {A = Result Valued Refusal} (Err r) (Err s) → r ≡ s
 one_refusal r s e = cc
 
-one_value : (x v : Valued) → Answer x ≡ Answer v → v ≡ x
+one_value : (x v : Valued) → ◌≡◌ {A = Result Valued Refusal} (Ok x) (Ok v) → v ≡ x
 one_value x v e = cc
 
-no_refusal : (x : Valued) (r : Refusal) → Answer x ≡ Refused r → ⊥
+no_refusal : (x : Valued) (r : Refusal) → ◌≡◌ {A = Result Valued Refusal} (Ok x) (Err r) → ⊥
 no_refusal x r e = let z : ◌≡◌ {A = ℕ} 0 1 = cc in omega arith
 
 module _ (f : Family) (k : List ℕ) (s : Segment) (i : ℕ) (et : Float) where
   -- **exactly-when**: case j gives its refusal where it holds and no earlier case does ..
-  pub refused_where : (j : ℕ) → First (cases f k s i et) j → evaluated f k s i et ≡ Refused (given (cases f k s i et) j)
+  pub refused_where : (j : ℕ) → First (cases f k s i et) j → evaluated f k s i et ≡ Err (given (cases f k s i et) j)
   unfolding evaluated
-  refused_where j h = given_where Refused _ (cases f k s i et) j h
+  refused_where j h = given_where Err _ (cases f k s i et) j h
 
   -- .. and only there ..
-  pub refused_only : (j : ℕ) → j < 4 → evaluated f k s i et ≡ Refused (given (cases f k s i et) j) → First (cases f k s i et) j
+  pub refused_only : (j : ℕ) → j < 4 → evaluated f k s i et ≡ Err (given (cases f k s i et) j) → First (cases f k s i et) j
   unfolding evaluated
-  refused_only j l e = given_only Refused _ one_refusal (no_refusal _) (cases f k s i et) j tt l e
+  refused_only j l e = given_only Err _ one_refusal (no_refusal _) (cases f k s i et) j tt l e
 
   -- .. and no other refusal is ever given.
-  pub refused_by_lem : (r : Refusal) → evaluated f k s i et ≡ Refused r → (j : ℕ) × First (cases f k s i et) j × (r ≡ given (cases f k s i et) j)
+  pub refused_by_lem : (r : Refusal) → evaluated f k s i et ≡ Err r → (j : ℕ) × First (cases f k s i et) j × (r ≡ given (cases f k s i et) j)
   unfolding evaluated
-  refused_by_lem r e = let g = given_some Refused _ one_refusal (no_refusal _) (cases f k s i et) r e in (g.0, g.2, g.3)
+  refused_by_lem r e = let g = given_some Err _ one_refusal (no_refusal _) (cases f k s i et) r e in (g.0, g.2, g.3)
 
   -- the cases have the numbers of RULES, "Refusals", in the order of "Evaluating a segment"
   pub numbered : map (λ (c : Case). number_of c.gives) (cases f k s i et) ≡ 12 ∷ 14 ∷ 13 ∷ 16 ∷ []
   numbered = refl
 
   -- where no case holds there is the state with its word, and only there
-  pub answered_where : None (cases f k s i et) → evaluated f k s i et ≡ Answer (value_at k (nat_abs s.start) s.kind et)
+  pub answered_where : None (cases f k s i et) → evaluated f k s i et ≡ Ok (value_at k (nat_abs s.start) s.kind et)
   unfolding evaluated
-  answered_where n = answer_where Refused _ (cases f k s i et) n
+  answered_where n = answer_where Err _ (cases f k s i et) n
 
-  pub answered_only : evaluated f k s i et ≡ Answer (value_at k (nat_abs s.start) s.kind et) → None (cases f k s i et)
+  pub answered_only : evaluated f k s i et ≡ Ok (value_at k (nat_abs s.start) s.kind et) → None (cases f k s i et)
   unfolding evaluated
-  answered_only e = answer_only Refused _ one_refusal (no_refusal _) (cases f k s i et) e
+  answered_only e = answer_only Err _ one_refusal (no_refusal _) (cases f k s i et) e
 
   -- a value is the definition's: its state, and whether a record was stretched
-  pub answered_value : (v : Valued) → evaluated f k s i et ≡ Answer v → v ≡ value_at k (nat_abs s.start) s.kind et
+  pub answered_value : (v : Valued) → evaluated f k s i et ≡ Ok v → v ≡ value_at k (nat_abs s.start) s.kind et
   unfolding evaluated
-  answered_value v e = one_value _ v (answered Refused _ one_refusal (no_refusal _) (cases f k s i et) (Answer v) e (λ r h. no_refusal v r h)).1
+  answered_value v e = one_value _ v (answered Err _ one_refusal (no_refusal _) (cases f k s i et) (Ok v) e (λ r h. no_refusal v r h)).1
 
   -- the same, a number at a time
-  pub exactly_12 : (unsupported s.kind ≡ true) ↔ (evaluated f k s i et ≡ Refused (TypeUnsupported s.data_type))
+  pub exactly_12 : (unsupported s.kind ≡ true) ↔ (evaluated f k s i et ≡ Err (TypeUnsupported s.data_type))
   exactly_12 = (λ h. refused_where 0 h, λ e. refused_only 0 (omega arith) e)
 
-  pub exactly_14 : (unsupported s.kind ≡ false) × (unfit f k s ≡ true) ↔ (evaluated f k s i et ≡ Refused TableUnfit)
+  pub exactly_14 : (unsupported s.kind ≡ false) × (unfit f k s ≡ true) ↔ (evaluated f k s i et ≡ Err TableUnfit)
   exactly_14 = (λ h. refused_where 1 h, λ e. refused_only 1 (omega arith) e)
 
-  pub exactly_13 : (unsupported s.kind ≡ false) × ((unfit f k s ≡ false) × (zero_radius k (nat_abs s.start) s.kind et ≡ true)) ↔ (evaluated f k s i et ≡ Refused (ZeroRadius i))
+  pub exactly_13 : (unsupported s.kind ≡ false) × ((unfit f k s ≡ false) × (zero_radius k (nat_abs s.start) s.kind et ≡ true)) ↔ (evaluated f k s i et ≡ Err (ZeroRadius i))
   exactly_13 = (λ h. refused_where 2 h, λ e. refused_only 2 (omega arith) e)
 
 -- ---- 16 never occurs
@@ -107,7 +106,7 @@ window_some k a (Type9 d n) h = let w = size_some d n h.some in ne_eqb (window_s
 window_some k a (Type13 d n) h = let w = size_some d n h.some in ne_eqb (window_size d n) 0 (λ q. omega arith)
 
 -- No window is empty, in an opened table or a forged one.
-pub never_16 : (f : Family) (k : List ℕ) (s : Segment) (i : ℕ) (et : Float) (j : ℕ) → evaluated f k s i et ≡ Refused (EmptyWindow j) → ⊥
+pub never_16 : (f : Family) (k : List ℕ) (s : Segment) (i : ℕ) (et : Float) (j : ℕ) → evaluated f k s i et ≡ Err (EmptyWindow j) → ⊥
 never_16 f k s i et j e = go (refused_by_lem f k s i et (EmptyWindow j) e)
   where
     go : (n : ℕ) × First (cases f k s i et) n × (EmptyWindow j ≡ given (cases f k s i et) n) → ⊥

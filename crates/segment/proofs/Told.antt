@@ -5,16 +5,17 @@ use lib.Dec.{eqb}
 use Rattle.frame.specs.State.{zero_state}
 use Rattle.refusal.specs.Told.{refused_by}
 use Rattle.refusal.proofs.Told.{told_back, refusal_of_lem, refusal_of, not_0}
-use Rattle.segment.specs.declared.Evaluated.{Evaluated}
-use Rattle.segment.specs.declared.Evaluated.TheVariants.{State, Refused}
+use Rattle.std.proofs.Common.{Result, Ok, Err}
+use Rattle.refusal.specs.declared.Refusal.{Refusal}
+use Rattle.segment.specs.declared.Valued.{Valued}
 use Rattle.segment.specs.Told.{Told, evaluated_told}
 
-abbrev evaluated_of_lem : Told → Evaluated
-evaluated_of_lem t = cond (eqb t.numbered.number 0) (State (record { state = t.six; stretched = t.stretched })) (Refused (refusal_of_lem t.numbered))
+abbrev evaluated_of_lem : Told → Result Valued Refusal
+evaluated_of_lem t = cond (eqb t.numbered.number 0) (Ok (record { state = t.six; stretched = t.stretched })) (Err (refusal_of_lem t.numbered))
 
-evaluated_of : (e : Evaluated) → evaluated_of_lem (evaluated_told e) ≡ e
-evaluated_of (State s) = refl
-evaluated_of (Refused r) = ap (λ (b : Bool). cond b (State (record { state = zero_state; stretched = false })) (Refused (refusal_of_lem (refused_by r)))) (not_0 r) ∙ ap Refused (refusal_of r)
+evaluated_of : (e : Result Valued Refusal) → evaluated_of_lem (evaluated_told e) ≡ e
+evaluated_of (Ok s) = refl
+evaluated_of (Err r) = ap (λ (b : Bool). cond b (Ok (record { state = zero_state; stretched = false })) (Err (refusal_of_lem (refused_by r)))) (not_0 r) ∙ ap Err (refusal_of r)
 
-pub one_evaluation : (e e' : Evaluated) → evaluated_told e ≡ evaluated_told e' → e ≡ e'
+pub one_evaluation : (e e' : Result Valued Refusal) → evaluated_told e ≡ evaluated_told e' → e ≡ e'
 one_evaluation = told_back evaluated_told evaluated_of_lem evaluated_of

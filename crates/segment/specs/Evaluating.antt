@@ -1,5 +1,5 @@
 -- The evaluation of one segment of a table, forged or not, on the kernel lent now.
-use Rattle.std.specs.Prelude.{ℕ, ◌+◌, ◌*◌, Bool, true, false, not, ◌||◌, List, [], ◌∷◌, eqb, nat_abs, Float}
+use Rattle.std.specs.Prelude.{ℕ, ◌+◌, ◌*◌, Bool, true, false, not, ◌||◌, List, [], ◌∷◌, eqb, nat_abs, Float, Option, Some, None, Result, Ok, Err}
 use Rattle.std.specs.Float.Ieee.{eq}
 use Rattle.bits.specs.F64.{+0}
 use Rattle.bits.specs.Bytes.{double_at}
@@ -12,8 +12,6 @@ use Rattle.frame.specs.declared.State.{State}
 use Rattle.frame.specs.State.{zero_state}
 use Rattle.daf.specs.Addresses.{byte_of}
 use Rattle.daf.specs.declared.Family.{Family}
-use Rattle.cheby.specs.declared.Cheby.{Cheby}
-use Rattle.cheby.specs.declared.Cheby.TheVariants.{Value, NoRadius}
 use Rattle.cheby.specs.Cheby.{record_for, reach_for, type2_of, type3_of}
 use Rattle.interp.specs.Window.{window_size}
 use Rattle.interp.specs.Discrete.{reach_at, type9_of, type13_of}
@@ -23,8 +21,7 @@ use Rattle.segment.specs.declared.Kind.{Kind}
 use Rattle.segment.specs.declared.Kind.TheVariants.{Unsupported, Type2, Type3, Type9, Type13}
 use Rattle.segment.specs.declared.Segment.{Segment}
 use Rattle.segment.specs.declared.Valued.{Valued}
-use Rattle.segment.specs.declared.Evaluated.{Evaluated}
-use Rattle.segment.specs.declared.Evaluated.TheVariants.{State as Answer, Refused}
+use Rattle.refusal.specs.declared.Refusal.{Refusal}
 
 -- The kind is unsupported.
 abbrev pub unsupported : Kind → Bool
@@ -64,9 +61,9 @@ empty_window (Type9 d n) = eqb (window_size d n) 0
 empty_window (Type13 d n) = eqb (window_size d n) 0
 
 -- The state of a type 2 record; one without RADIUS was refused.
-abbrev pub state_in : Cheby → State
-state_in (Value s) = s
-state_in NoRadius = zero_state
+abbrev pub state_in : Option State → State
+state_in (Some s) = s
+state_in None = zero_state
 
 -- The state at et of a segment of this kind whose first address is a; an unsupported kind was refused.
 unfoldable pub state_at : List ℕ → ℕ → Kind → Float → State
@@ -102,5 +99,5 @@ cases f k s i et =
     case (unsupported s.kind) (TypeUnsupported s.data_type) ∷ case (unfit f k s) TableUnfit ∷ value_cases k (nat_abs s.start) s.kind i et
 
 -- The evaluation at et of segment number i.
-unfoldable pub evaluated : Family → List ℕ → Segment → ℕ → Float → Evaluated
-evaluated f k s i et = first_of (cases f k s i et) Refused (Answer (value_at k (nat_abs s.start) s.kind et))
+unfoldable pub evaluated : Family → List ℕ → Segment → ℕ → Float → Result Valued Refusal
+evaluated f k s i et = first_of (cases f k s i et) Err (Ok (value_at k (nat_abs s.start) s.kind et))

@@ -1,5 +1,5 @@
 -- Worked cases (RULES, "Worked numbers"), closed by computation: the numbers of a trailer, addresses, and a table that was forged.
-use Rattle.std.specs.Prelude.{ℕ, ◌^◌, ◌≡◌, refl, Bool, true, false, List, [], ◌∷◌, ◌++◌, map, ℤ, pos, negsuc, take, Float}
+use Rattle.std.specs.Prelude.{ℕ, ◌^◌, ◌≡◌, refl, Bool, true, false, List, [], ◌∷◌, ◌++◌, map, ℤ, pos, negsuc, take, Float, Some, None, Result, Ok, Err}
 use Rattle.std.specs.Float.{nan, inf, fin, binary64}
 use Rattle.std.specs.Float.Ieee.{is_nan, lt, eq, neg, sub, mul, div, of_int, of_bits, to_unsigned}
 use Rattle.bits.specs.F64.{+0, whole}
@@ -14,21 +14,20 @@ use Rattle.interp.specs.Window.{window_size}
 use Rattle.segment.specs.Kinds.{form_of, whole_number, trailer_at, kind_of}
 use Rattle.segment.specs.Malformed.{limit_nan, misplaced, bad_size, bad_interval, overruns, bad_length, bad_states, malformed}
 use Rattle.segment.specs.Evaluating.{unfit, zero_radius, empty_window, state_at, reach_by, evaluated}
-use Rattle.segment.specs.declared.Form.TheVariants.{Other, Two, Three, Nine, Thirteen}
+use Rattle.segment.specs.declared.Form.TheVariants.{Two, Three, Nine, Thirteen}
 use Rattle.segment.specs.declared.Kind.{Kind}
 use Rattle.segment.specs.declared.Kind.TheVariants.{Unsupported, Type2, Type3, Type9, Type13}
 use Rattle.segment.specs.declared.Segment.{Segment}
 use Rattle.segment.specs.declared.Valued.{Valued}
-use Rattle.segment.specs.declared.Evaluated.{Evaluated}
-use Rattle.segment.specs.declared.Evaluated.TheVariants.{State as Answer, Refused}
+use Rattle.refusal.specs.declared.Refusal.{Refusal}
 
 -- The forms of types 2, 3, 9, 13, 5 and -2 of an SPK.
-pub spk_types : map (form_of Spk) (pos 2 ∷ pos 3 ∷ pos 9 ∷ pos 13 ∷ pos 5 ∷ negsuc 1 ∷ []) ≡ Two ∷ Three ∷ Nine ∷ Thirteen ∷ Other ∷ Other ∷ []
+pub spk_types : map (form_of Spk) (pos 2 ∷ pos 3 ∷ pos 9 ∷ pos 13 ∷ pos 5 ∷ negsuc 1 ∷ []) ≡ Some Two ∷ Some Three ∷ Some Nine ∷ Some Thirteen ∷ None ∷ None ∷ []
 unfolding form_of
 spk_types = refl
 
 -- The same of a PCK.
-pub pck_types : map (form_of Pck) (pos 2 ∷ pos 3 ∷ pos 9 ∷ pos 13 ∷ pos 5 ∷ negsuc 1 ∷ []) ≡ Two ∷ Other ∷ Other ∷ Other ∷ Other ∷ Other ∷ []
+pub pck_types : map (form_of Pck) (pos 2 ∷ pos 3 ∷ pos 9 ∷ pos 13 ∷ pos 5 ∷ negsuc 1 ∷ []) ≡ Some Two ∷ None ∷ None ∷ None ∷ None ∷ None ∷ []
 unfolding form_of
 pck_types = refl
 
@@ -106,7 +105,7 @@ segment t start end kind =
     }
 
 -- Evaluated at 7, as segment number 4.
-abbrev pub at7 : Family → List ℕ → Segment → Evaluated
+abbrev pub at7 : Family → List ℕ → Segment → Result Valued Refusal
 at7 f k s = evaluated f k s 4 (whole 7)
 
 -- The kind that is there.
@@ -119,24 +118,24 @@ gives b = record { state = record { x = whole 1; y = whole 2; z = whole 3; vx = 
 
 -- An SPK's and a PCK's.
 pub answers : at7 Spk (kernel (double 0x14 0x40)) (segment (pos 2) (pos 1) (pos 9) own) ∷ at7 Pck (kernel (double 0x14 0x40)) (segment (pos 2) (pos 1) (pos 9) own) ∷ []
-    ≡ Answer (gives false) ∷ Answer (gives false) ∷ []
+    ≡ Ok (gives false) ∷ Ok (gives false) ∷ []
 unfolding evaluated unfit malformed kind_of form_of trailer_at whole_number zero_radius empty_window state_at reach_by reach_for reach_of beside record_for record_of into floor_of record2 value_of rate_of series_at slope_at same is_nan lt eq sub mul div of_int of_bits to_unsigned le32 le64
 answers = refl
 
 -- The one record of 0 to 10 at -0, at the right end, and before 0: at 10 it is stretched.
 pub words : map (evaluated Spk (kernel (double 0x14 0x40)) (segment (pos 2) (pos 1) (pos 9) own) 4) (neg +0 ∷ whole 10 ∷ neg (whole 1) ∷ [])
-    ≡ Answer (gives false) ∷ Answer (gives true) ∷ Answer (gives true) ∷ []
+    ≡ Ok (gives false) ∷ Ok (gives true) ∷ Ok (gives true) ∷ []
 unfolding evaluated unfit malformed kind_of form_of trailer_at whole_number zero_radius empty_window state_at reach_by reach_for reach_of beside record_for record_of into floor_of record2 value_of rate_of series_at slope_at same is_nan lt eq neg sub mul div of_int of_bits to_unsigned le32 le64
 words = refl
 
 -- RADIUS +0 and -0.
-pub no_radius : at7 Spk (kernel (double 0 0)) (segment (pos 2) (pos 1) (pos 9) own) ∷ at7 Spk (kernel (double 0 0x80)) (segment (pos 2) (pos 1) (pos 9) own) ∷ [] ≡ Refused (ZeroRadius 4) ∷ Refused (ZeroRadius 4) ∷ []
+pub no_radius : at7 Spk (kernel (double 0 0)) (segment (pos 2) (pos 1) (pos 9) own) ∷ at7 Spk (kernel (double 0 0x80)) (segment (pos 2) (pos 1) (pos 9) own) ∷ [] ≡ Err (ZeroRadius 4) ∷ Err (ZeroRadius 4) ∷ []
 unfolding evaluated unfit malformed kind_of form_of trailer_at whole_number zero_radius empty_window state_at record_for record_of into floor_of record2 value_of rate_of series_at slope_at same is_nan lt eq sub mul div of_int of_bits to_unsigned le32 le64
 no_radius = refl
 
 -- A type that is not supported, whatever its number is.
 pub unsupported_types : at7 Spk (kernel (double 0x14 0x40)) (segment (pos 2) (pos 1) (pos 9) Unsupported) ∷ at7 Pck [] (segment (negsuc 4) (pos 0) (pos 0) Unsupported) ∷ []
-    ≡ Refused (TypeUnsupported (pos 2)) ∷ Refused (TypeUnsupported (negsuc 4)) ∷ []
+    ≡ Err (TypeUnsupported (pos 2)) ∷ Err (TypeUnsupported (negsuc 4)) ∷ []
 unfolding evaluated
 unsupported_types = refl
 
@@ -146,6 +145,6 @@ pub forged : map (at7 Spk (kernel (double 0x14 0x40)))
     ∷ segment (pos 2) (pos 1) (pos 9) (Type2 +0 (whole 10) 5 2) ∷ segment (pos 2) (pos 1) (pos 9) (Type2 (fin true 0 (pos 0)) (whole 10) 5 1) ∷ segment (pos 3) (pos 1) (pos 9) own
     ∷ segment (pos 5) (pos 1) (pos 9) own ∷ segment (pos 2) (pos 0) (pos 9) own ∷ segment (pos 2) (pos 2) (pos 9) own ∷ segment (pos 2) (pos 1) (pos 2147483647) own ∷ [])
     ++ at7 Spk (take 71 (kernel (double 0x14 0x40))) (segment (pos 2) (pos 1) (pos 9) own) ∷ at7 Pck (kernel (double 0x14 0x40)) (segment (pos 3) (pos 1) (pos 9) (Type3 +0 (whole 10) 5 1)) ∷ []
-    ≡ map (λ (n : ℕ). Refused TableUnfit) (0 ∷ 1 ∷ 2 ∷ 3 ∷ 4 ∷ 5 ∷ 6 ∷ 7 ∷ 8 ∷ 9 ∷ 10 ∷ 11 ∷ [])
+    ≡ map (λ (n : ℕ). Err TableUnfit) (0 ∷ 1 ∷ 2 ∷ 3 ∷ 4 ∷ 5 ∷ 6 ∷ 7 ∷ 8 ∷ 9 ∷ 10 ∷ 11 ∷ [])
 unfolding evaluated unfit malformed kind_of form_of trailer_at whole_number same is_nan lt of_int of_bits to_unsigned le32 le64
 forged = refl

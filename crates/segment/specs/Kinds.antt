@@ -1,5 +1,5 @@
 -- The types that are handled, and the kind that a segment's trailer makes.
-use Rattle.std.specs.Prelude.{ℕ, ◌-◌, Bool, true, false, cond, ◌&&◌, List, eqb, ℤ, pos, nat_abs, Float}
+use Rattle.std.specs.Prelude.{ℕ, ◌-◌, Bool, cond, ◌&&◌, List, eqb, ℤ, pos, nat_abs, Float, Option, Some, None}
 use Rattle.std.specs.Float.Ieee.{to_unsigned}
 use Rattle.bits.specs.F64.{+0}
 use Rattle.bits.specs.Same.{same, same_z}
@@ -7,22 +7,16 @@ use Rattle.daf.specs.Addresses.{double_of_address}
 use Rattle.daf.specs.declared.Family.{Family}
 use Rattle.daf.specs.declared.Family.TheVariants.{Spk, Pck}
 use Rattle.segment.specs.declared.Form.{Form}
-use Rattle.segment.specs.declared.Form.TheVariants.{Other, Two, Three, Nine, Thirteen}
+use Rattle.segment.specs.declared.Form.TheVariants.{Two, Three, Nine, Thirteen}
 use Rattle.segment.specs.declared.Kind.{Kind}
 use Rattle.segment.specs.declared.Kind.TheVariants.{Unsupported, Type2, Type3, Type9, Type13}
 use Rattle.segment.specs.declared.Trailer.{Trailer}
 
 -- The handled types: 2, 3, 9 and 13 of SPK, 2 alone of PCK.
-unfoldable pub form_of : Family → ℤ → Form
-form_of Spk t = cond (same_z t (pos 2)) Two (cond (same_z t (pos 3)) Three (cond (same_z t (pos 9)) Nine (cond (same_z t (pos 13)) Thirteen Other)))
-form_of Pck t = cond (same_z t (pos 2)) Two Other
-
-abbrev pub handled : Form → Bool
-handled Other = false
-handled Two = true
-handled Three = true
-handled Nine = true
-handled Thirteen = true
+unfoldable pub form_of : Family → ℤ → Option Form
+form_of Spk t =
+    cond (same_z t (pos 2)) (Some Two) (cond (same_z t (pos 3)) (Some Three) (cond (same_z t (pos 9)) (Some Nine) (cond (same_z t (pos 13)) (Some Thirteen) None)))
+form_of Pck t = cond (same_z t (pos 2)) (Some Two) None
 
 -- RSIZE, N and the degree are made whole by dropping the fraction: NaN and negatives give 0, values too large the largest of 64 bits.
 unfoldable pub whole_number : Float → ℕ
@@ -52,7 +46,6 @@ states_at k e = states_trailer (whole_number (double_of_address k (e - 1))) (who
 
 -- The trailer of data in this form whose last double has address e.
 unfoldable pub trailer_at : List ℕ → Form → ℕ → Trailer
-trailer_at k Other e = no_trailer
 trailer_at k Two e = records_at k e
 trailer_at k Three e = records_at k e
 trailer_at k Nine e = states_at k e
@@ -60,15 +53,19 @@ trailer_at k Thirteen e = states_at k e
 
 -- The kind of data in this form with this trailer.
 abbrev pub kind_with : Form → Trailer → Kind
-kind_with Other t = Unsupported
 kind_with Two t = Type2 t.init t.intlen t.size t.count
 kind_with Three t = Type3 t.init t.intlen t.size t.count
 kind_with Nine t = Type9 t.size t.count
 kind_with Thirteen t = Type13 t.size t.count
 
+-- The kind of data whose last double has address e: unsupported, where the type is not handled.
+abbrev pub kind_at : List ℕ → Option Form → ℕ → Kind
+kind_at k None e = Unsupported
+kind_at k (Some form) e = kind_with form (trailer_at k form e)
+
 -- The kind of a segment of this type that ends at this address.
 unfoldable pub kind_of : Family → List ℕ → ℤ → ℤ → Kind
-kind_of f k t end = kind_with (form_of f t) (trailer_at k (form_of f t) (nat_abs end))
+kind_of f k t end = kind_at k (form_of f t) (nat_abs end)
 
 -- The type of a kind, and its trailer.
 abbrev pub type_in : Kind → ℕ

@@ -1,5 +1,5 @@
 -- Refusal 9: the tests of a segment over the kernel's bytes, in the order of RULES, "Opening". Whole numbers are mathematical: nothing wraps.
-use Rattle.std.specs.Prelude.{ℕ, ◌+◌, ◌-◌, ◌*◌, ◌/◌, Bool, false, cond, not, ◌&&◌, ◌||◌, List, eqb, ltb, ℤ, pos, nat_abs, Float}
+use Rattle.std.specs.Prelude.{ℕ, ◌+◌, ◌-◌, ◌*◌, ◌/◌, Bool, false, cond, not, ◌||◌, List, eqb, ltb, ℤ, pos, nat_abs, Float, Option, Some, None}
 use Rattle.std.specs.Int.Signed.{lt_z}
 use Rattle.std.specs.Float.Ieee.{is_nan, lt}
 use Rattle.bits.specs.F64.{+0, finite}
@@ -7,16 +7,12 @@ use Rattle.daf.specs.Addresses.{whole_doubles}
 use Rattle.daf.specs.declared.Family.{Family}
 use Rattle.daf.specs.declared.Summary.{Summary}
 use Rattle.interp.specs.Window.{window_size}
-use Rattle.segment.specs.Kinds.{form_of, handled, trailer_at, kind_of}
+use Rattle.segment.specs.Kinds.{form_of, trailer_at, kind_of}
 use Rattle.segment.specs.declared.Form.{Form}
-use Rattle.segment.specs.declared.Form.TheVariants.{Other, Two, Three, Nine, Thirteen}
+use Rattle.segment.specs.declared.Form.TheVariants.{Two, Three, Nine, Thirteen}
 use Rattle.segment.specs.declared.Kind.{Kind}
 use Rattle.segment.specs.declared.Trailer.{Trailer}
 use Rattle.segment.specs.declared.Segment.{Segment}
-use Rattle.segment.specs.declared.Found.{Found}
-use Rattle.segment.specs.declared.Found.TheVariants.{Kind as Makes, Malformed as Fails}
-use Rattle.segment.specs.declared.Judged.{Judged}
-use Rattle.segment.specs.declared.Judged.TheVariants.{Accepted, Malformed}
 
 -- An epoch limit is NaN.
 abbrev pub limit_nan : Float → Float → Bool
@@ -32,7 +28,6 @@ length_of a e = e + 1 - a
 
 -- How many doubles the trailer has.
 abbrev pub trailer_size : Form → ℕ
-trailer_size Other = 0
 trailer_size Two = 4
 trailer_size Three = 4
 trailer_size Nine = 2
@@ -68,7 +63,6 @@ bad_states least t len = bad_length t.count len || ltb t.size least || ltb 32 (w
 
 -- The numbers of a trailer, in a segment of this length: 3 series in type 2, 6 in type 3.
 abbrev pub bad_trailer : Form → Trailer → ℕ → Bool
-bad_trailer Other t len = false
 bad_trailer Two t len = bad_records 3 t len
 bad_trailer Three t len = bad_records 6 t len
 bad_trailer Nine t len = bad_states 0 t len
@@ -78,10 +72,14 @@ bad_trailer Thirteen t len = bad_states 1 t len
 abbrev pub bad_data : List ℕ → Form → ℕ → ℕ → Bool
 bad_data k form a e = ltb (length_of a e) (trailer_size form) || bad_trailer form (trailer_at k form e) (length_of a e)
 
+-- The tests of addresses and data, which the types that are not handled don't get.
+abbrev pub bad_form : List ℕ → Option Form → ℤ → ℤ → Bool
+bad_form k None start end = false
+bad_form k (Some form) start end = misplaced (whole_doubles k) start end || bad_data k form (nat_abs start) (nat_abs end)
+
 -- Refusal 9. Unsupported types get only the NaN test.
 unfoldable pub malformed : Family → List ℕ → Float → Float → ℤ → ℤ → ℤ → Bool
-malformed f k first last t start end =
-    limit_nan first last || (handled (form_of f t) && (misplaced (whole_doubles k) start end || bad_data k (form_of f t) (nat_abs start) (nat_abs end)))
+malformed f k first last t start end = limit_nan first last || bad_form k (form_of f t) start end
 
 -- A segment of a table is malformed on this kernel.
 abbrev pub malformed_in : Family → List ℕ → Segment → Bool
@@ -91,9 +89,9 @@ malformed_in f k s = malformed f k s.first s.last s.data_type s.start s.end
 abbrev pub kind_in : Family → List ℕ → Segment → Kind
 kind_in f k s = kind_of f k s.data_type s.end
 
--- What the tests find.
-unfoldable pub found : Family → List ℕ → Segment → Found
-found f k s = cond (malformed_in f k s) Fails (Makes (kind_in f k s))
+-- What the tests find: the kind that the trailer makes, or none where one of them fails.
+unfoldable pub found : Family → List ℕ → Segment → Option Kind
+found f k s = cond (malformed_in f k s) None (Some (kind_in f k s))
 
 -- A summary's segment with this kind, unmarked.
 abbrev pub segment_with : Summary → Kind → Segment
@@ -116,7 +114,7 @@ segment_with s kind =
 abbrev pub segment_of : Family → List ℕ → Summary → Segment
 segment_of f k s = segment_with s (kind_of f k s.data_type s.end)
 
--- What a summary results in at the opening.
-unfoldable pub judged : Family → List ℕ → Summary → Judged
+-- What a summary results in at the opening: its segment, or none where it is malformed.
+unfoldable pub judged : Family → List ℕ → Summary → Option Segment
 judged f k s =
-    cond (malformed f k s.first s.last s.data_type s.start s.end) Malformed (Accepted (segment_of f k s))
+    cond (malformed f k s.first s.last s.data_type s.start s.end) None (Some (segment_of f k s))

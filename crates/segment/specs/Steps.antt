@@ -1,5 +1,5 @@
 -- What the small functions of the code do. No promise of an entry point needs these. Assumes nothing: these are definitions.
-use Rattle.std.specs.Prelude.{ℕ, ◌+◌, ◌*◌, ◌^◌, ◌≤◌, ◌<◌, ◌≡◌, false, List, nat_abs, length, Float}
+use Rattle.std.specs.Prelude.{ℕ, ◌+◌, ◌*◌, ◌^◌, ◌≤◌, ◌<◌, ◌≡◌, false, List, nat_abs, length, Float, Result, Ok, Err}
 use Rattle.bits.specs.Record.{is_stretched}
 use Rattle.refusal.specs.Order.{first_of}
 use Rattle.daf.specs.Addresses.{byte_of, whole_doubles}
@@ -12,13 +12,13 @@ use Rattle.segment.specs.declared.Kind.TheVariants.{Unsupported, Type2, Type3, T
 use Rattle.segment.specs.declared.Trailer.{Trailer}
 use Rattle.segment.specs.declared.Place.{Place}
 use Rattle.segment.specs.declared.Segment.{Segment}
-use Rattle.segment.specs.declared.Evaluated.{Evaluated}
-use Rattle.segment.specs.declared.Evaluated.TheVariants.{State as Answer, Refused}
+use Rattle.refusal.specs.declared.Refusal.{Refusal}
+use Rattle.segment.specs.declared.Valued.{Valued}
 use Rattle.segment.specs.Evaluating.{record_byte, value_at, value_cases}
 
 -- After refusals 12 and 14.
-unfoldable pub valued : List ℕ → ℕ → Kind → ℕ → Float → Evaluated
-valued k a kind i et = first_of (value_cases k a kind i et) Refused (Answer (value_at k a kind et))
+unfoldable pub valued : List ℕ → ℕ → Kind → ℕ → Float → Result Valued Refusal
+valued k a kind i et = first_of (value_cases k a kind i et) Err (Ok (value_at k a kind et))
 
 -- Where the record for et starts, in a segment whose first address is a, and whether it is stretched to et.
 abbrev pub place_of : ℕ → Trailer → Float → Place

@@ -1,32 +1,32 @@
 // The types that are handled, and the kind that a segment's trailer makes: specs/Kinds.antt.
 ghost use Rattle.std.specs.Prelude.{◌≡◌, ◌*◌, ◌≤◌, length};
 ghost use Rattle.daf.specs.Addresses.{double_of_address};
-ghost use Rattle.segment.specs.Kinds.{form_of, handled, whole_number, records_at, states_at, trailer_at, kind_with, type_in, trailer_in, same_trailer, same_kind};
+ghost use Rattle.segment.specs.Kinds.{form_of, whole_number, records_at, states_at, trailer_at, kind_with, trailer_in, same_trailer, same_kind};
 ghost use Rattle.segment.specs.Malformed.{trailer_size};
 
 use super::{Form, Kind, Segment, Trailer};
 use daf::Family;
 
 // The handled types: 2, 3, 9 and 13 of SPK, 2 alone of PCK.
-pub fn form_of(family: Family, s: Segment) -> Form
+pub fn form_of(family: Family, s: Segment) -> Option<Form>
     ensures { result ≡ form_of family s.data_type }
 {
     if s.data_type == 2 {
-        return Form::Two;
+        return Some(Form::Two);
     }
     match family {
-        Family::Pck => Form::Other,
+        Family::Pck => None,
         Family::Spk => {
             if s.data_type == 3 {
-                return Form::Three;
+                return Some(Form::Three);
             }
             if s.data_type == 9 {
-                return Form::Nine;
+                return Some(Form::Nine);
             }
             if s.data_type == 13 {
-                return Form::Thirteen;
+                return Some(Form::Thirteen);
             }
-            Form::Other
+            None
         }
     }
 }
@@ -61,16 +61,14 @@ pub fn states_at(kernel: &[u8], end: usize) -> Trailer
 }
 
 // The trailer of data in this form.
+#[tactic(auto, unfolding(crate::specs::Kinds::trailer_at))]
 pub fn trailer_at(kernel: &[u8], form: Form, end: usize) -> Trailer
     requires { (trailer_size form ≤ end) × (8 * end ≤ length kernel.now) }
     ensures { result ≡ trailer_at kernel.now form end }
 {
     match form {
-        Form::Other => Trailer::NONE,
-        Form::Two => records_at(kernel, end),
-        Form::Three => records_at(kernel, end),
-        Form::Nine => states_at(kernel, end),
-        Form::Thirteen => states_at(kernel, end),
+        Form::Two | Form::Three => records_at(kernel, end),
+        Form::Nine | Form::Thirteen => states_at(kernel, end),
     }
 }
 
@@ -78,54 +76,33 @@ pub fn trailer_at(kernel: &[u8], form: Form, end: usize) -> Trailer
 pub fn kind_with(form: Form, t: Trailer) -> Kind
     ensures { result ≡ kind_with form t }
 {
+    let Trailer {
+        init,
+        intlen,
+        size,
+        count,
+    } = t;
     match form {
-        Form::Other => Kind::Unsupported,
         Form::Two => Kind::Type2 {
-            init: t.init,
-            intlen: t.intlen,
-            rsize: t.size,
-            count: t.count,
+            init,
+            intlen,
+            rsize: size,
+            count,
         },
         Form::Three => Kind::Type3 {
-            init: t.init,
-            intlen: t.intlen,
-            rsize: t.size,
-            count: t.count,
+            init,
+            intlen,
+            rsize: size,
+            count,
         },
         Form::Nine => Kind::Type9 {
-            degree: t.size,
-            count: t.count,
+            degree: size,
+            count,
         },
         Form::Thirteen => Kind::Type13 {
-            degree: t.size,
-            count: t.count,
+            degree: size,
+            count,
         },
-    }
-}
-
-// The form is a handled one.
-pub fn handled(form: Form) -> bool
-    ensures { result ≡ handled form }
-{
-    match form {
-        Form::Other => false,
-        Form::Two => true,
-        Form::Three => true,
-        Form::Nine => true,
-        Form::Thirteen => true,
-    }
-}
-
-// The type of a kind.
-pub fn type_in(kind: Kind) -> u32
-    ensures { result ≡ type_in kind }
-{
-    match kind {
-        Kind::Unsupported => 0,
-        Kind::Type2 { .. } => 2,
-        Kind::Type3 { .. } => 3,
-        Kind::Type9 { .. } => 9,
-        Kind::Type13 { .. } => 13,
     }
 }
 
@@ -140,25 +117,16 @@ pub fn trailer_in(kind: Kind) -> Trailer
             intlen,
             rsize,
             count,
-        } => Trailer {
-            init,
-            intlen,
-            size: rsize,
-            count,
-        },
-        Kind::Type3 {
+        }
+        | Kind::Type3 {
             init,
             intlen,
             rsize,
             count,
-        } => Trailer {
-            init,
-            intlen,
-            size: rsize,
-            count,
-        },
-        Kind::Type9 { degree, count } => Trailer::of_states(degree, count),
-        Kind::Type13 { degree, count } => Trailer::of_states(degree, count),
+        } => Trailer::of_records(init, intlen, rsize, count),
+        Kind::Type9 { degree, count } | Kind::Type13 { degree, count } => {
+            Trailer::of_states(degree, count)
+        }
     }
 }
 
@@ -166,18 +134,23 @@ pub fn trailer_in(kind: Kind) -> Trailer
 pub fn same_trailer(a: Trailer, b: Trailer) -> bool
     ensures { result ≡ same_trailer a b }
 {
-    if !bits::same_bits(a.init, b.init) {
-        return false;
-    }
-    if !bits::same_bits(a.intlen, b.intlen) {
-        return false;
-    }
-    a.size == b.size && a.count == b.count
+    bits::same_bits(a.init, b.init)
+        && bits::same_bits(a.intlen, b.intlen)
+        && a.size == b.size
+        && a.count == b.count
 }
 
 // Two kinds are one.
 pub fn same_kind(a: Kind, b: Kind) -> bool
     ensures { result ≡ same_kind a b }
 {
-    type_in(a) == type_in(b) && same_trailer(trailer_in(a), trailer_in(b))
+    let of_one_type = matches!(
+        (a, b),
+        (Kind::Unsupported, Kind::Unsupported)
+            | (Kind::Type2 { .. }, Kind::Type2 { .. })
+            | (Kind::Type3 { .. }, Kind::Type3 { .. })
+            | (Kind::Type9 { .. }, Kind::Type9 { .. })
+            | (Kind::Type13 { .. }, Kind::Type13 { .. })
+    );
+    of_one_type && same_trailer(trailer_in(a), trailer_in(b))
 }

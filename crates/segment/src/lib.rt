@@ -3,7 +3,9 @@
 
 #![tactic(auto)]
 
-ghost use Rattle.std.specs.Prelude.{◌≡◌, ℕ};
+ghost use Rattle.std.specs.Prelude.{◌≡◌, ◌+◌, ◌*◌, ◌^◌, ◌≤◌, ◌<◌, ℕ};
+ghost use Rattle.bits.specs.Record.{is_stretched};
+ghost use Rattle.daf.specs.Addresses.{byte_of};
 ghost use Rattle.segment.specs.Kinds.{states_trailer};
 ghost use Rattle.segment.specs.Malformed.{judged};
 ghost use Rattle.segment.specs.Evaluating.{evaluated};
@@ -13,6 +15,7 @@ mod evaluating;
 mod kinds;
 mod malformed;
 
+use cheby::Chosen;
 use daf::{Family, Summary};
 use evaluating::{evaluate_any, is_three, plain_coefficients, plain_place, plainly_fits};
 use frame::State;
@@ -78,13 +81,6 @@ impl Segment {
     };
 }
 
-// What a summary results in at the opening: its segment, unmarked, or refusal 9.
-#[derive(Clone, Copy)]
-pub enum Judged {
-    Accepted(Segment),
-    Malformed,
-}
-
 // What a segment gives: its state, and whether a record was stretched to the epoch.
 #[derive(Clone, Copy)]
 pub struct Valued {
@@ -97,18 +93,8 @@ impl Valued {
     fn of(state: State, stretched: bool) -> Valued
         ensures { result ≡ record { state = state; stretched = stretched } }
     {
-        Valued {
-            state: state,
-            stretched: stretched,
-        }
+        Valued { state, stretched }
     }
-}
-
-// What evaluating a segment results in.
-#[derive(Clone, Copy)]
-pub enum Evaluated {
-    State(Valued),
-    Refused(Refusal),
 }
 
 // Where the record for an epoch starts, and whether it is stretched to the epoch.
@@ -118,10 +104,22 @@ struct Place {
     stretched: bool,
 }
 
-// How a type's data are laid out: as those of a handled type, or otherwise.
+impl Place {
+    // The place of the record that was chosen, among records of so many doubles from address `start` on.
+    fn of(start: usize, size: u64, r: Chosen) -> Place
+        requires { (1 ≤ start) × (byte_of start + 8 * (size * r.number) < 2 ^ 64) }
+        ensures { result ≡ record { byte = byte_of start + 8 * (size * r.number); stretched = is_stretched r.reach } }
+    {
+        Place {
+            byte: 8 * (start - 1) + 8 * (size * r.number) as usize,
+            stretched: r.reach.is_stretched(),
+        }
+    }
+}
+
+// How the data of a handled type are laid out.
 #[derive(Clone, Copy)]
 enum Form {
-    Other,
     Two,
     Three,
     Nine,
@@ -171,69 +169,61 @@ impl Trailer {
     }
 }
 
-// What the tests of refusal 9 find: the kind that the trailer makes, or that one of them fails.
-#[derive(Clone, Copy)]
-enum Found {
-    Kind(Kind),
-    Malformed,
-}
-
-// The segment of a summary at the opening, or that it is malformed (9).
-pub fn judge(kernel: &[u8], family: Family, summary: Summary) -> Judged
+// The segment of a summary at the opening, unmarked, or none where it is malformed (9).
+pub fn judge(kernel: &[u8], family: Family, summary: Summary) -> Option<Segment>
     ensures value { result ≡ judged family kernel.now summary }
     ensures told { (i : ℕ) → judged_told i result ≡ judged_told i (judged family kernel.now summary) }
 {
-    let found = find(kernel, family, segment_with(summary, Kind::Unsupported));
-    match found {
-        Found::Malformed => Judged::Malformed,
-        Found::Kind(kind) => Judged::Accepted(segment_with(summary, kind)),
-    }
+    let kind = find(kernel, family, segment_with(summary, Kind::Unsupported))?;
+    Some(segment_with(summary, kind))
 }
 
 // Segment number `number`, evaluated at et on the kernel lent now. Types 2 and 3 that plainly fit are evaluated here, the answer made in place; the
 // segment is copied only where it goes on as a whole.
-pub fn evaluate(kernel: &[u8], family: Family, s: Segment, number: u32, et: f64) -> Evaluated
+pub fn evaluate(
+    kernel: &[u8],
+    family: Family,
+    s: Segment,
+    number: u32,
+    et: f64,
+) -> Result<Valued, Refusal>
     ensures value { result ≡ evaluated family kernel.now s number et }
     ensures told { evaluated_told result ≡ evaluated_told (evaluated family kernel.now s number et) }
 {
     let kind = s.kind;
-    if s.data_type == 2 {
-        if let Kind::Type2 {
+    match kind {
+        Kind::Type2 {
             init,
             intlen,
             rsize,
             count,
-        } = kind
-        {
+        } if s.data_type == 2 => {
             let t = Trailer::of_records(init, intlen, rsize, count);
             if plainly_fits(kernel, 3, s, t) {
                 let at = plain_place(kernel, start_of(s), t, et);
                 if cheby::no_radius(kernel, at.byte) {
-                    return Evaluated::Refused(Refusal::ZeroRadius(number));
+                    return Err(Refusal::ZeroRadius(number));
                 }
                 let c = plain_coefficients(3, t.size);
                 let state = cheby::state2_at(kernel, at.byte, c, et);
-                return Evaluated::State(Valued::of(state, at.stretched));
+                return Ok(Valued::of(state, at.stretched));
             }
         }
-        let own = s;
-        let other = evaluate_any(kernel, family, own, number, et);
-        return other;
-    }
-    if let Kind::Type3 {
-        init,
-        intlen,
-        rsize,
-        count,
-    } = kind
-    {
-        let t = Trailer::of_records(init, intlen, rsize, count);
-        if is_three(family, s) && plainly_fits(kernel, 6, s, t) {
-            let at = plain_place(kernel, start_of(s), t, et);
-            let c = plain_coefficients(6, t.size);
-            let state = cheby::state3_at(kernel, at.byte, c, et);
-            return Evaluated::State(Valued::of(state, at.stretched));
+        Kind::Type3 {
+            init,
+            intlen,
+            rsize,
+            count,
+        } if is_three(family, s) => {
+            let t = Trailer::of_records(init, intlen, rsize, count);
+            if plainly_fits(kernel, 6, s, t) {
+                let at = plain_place(kernel, start_of(s), t, et);
+                let c = plain_coefficients(6, t.size);
+                let state = cheby::state3_at(kernel, at.byte, c, et);
+                return Ok(Valued::of(state, at.stretched));
+            }
         }
+        _ => {}
     }
     let own = s;
     let other = evaluate_any(kernel, family, own, number, et);

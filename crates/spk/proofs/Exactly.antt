@@ -25,15 +25,10 @@ use Rattle.refusal.specs.declared.Refusal.TheVariants.{EpochNan, NoCoverage, Tab
 use Rattle.refusal.specs.Numbers.{number_of}
 use Rattle.segment.specs.declared.Segment.{Segment}
 use Rattle.segment.specs.declared.Valued.{Valued}
-use Rattle.segment.specs.declared.Evaluated.{Evaluated}
-use Rattle.segment.specs.declared.Evaluated.TheVariants as evaluation
-use Rattle.table.specs.declared.Choice.{Choice}
-use Rattle.table.specs.declared.Choice.TheVariants.{At, Nothing}
+use Rattle.std.proofs.Common.{Option, Some, None, Result, Ok, Err}
 use Rattle.table.specs.Segments.{seg}
 use Rattle.table.proofs.Last.{chosen_at, last_chosen}
 use Rattle.chain.specs.declared.Leg.{Leg}
-use Rattle.chain.specs.declared.Yielded.{Yielded}
-use Rattle.chain.specs.declared.Yielded.TheVariants as yielded
 use Rattle.chain.specs.Step.{Evaluation, given_by, yield_of}
 use Rattle.chain.specs.Walk.{chain_limit, walk_from, to_zero}
 use Rattle.chain.specs.When.{is_own, OwnOnly, Stuck, Failed}
@@ -41,13 +36,12 @@ use Rattle.chain.proofs.Walks.{zero_walk}
 use Rattle.chain.proofs.Ends.{clash, stuck_where}
 use Rattle.chain.proofs.Failing.{failed_where, zero_why, failed_given}
 use Rattle.spk.specs.declared.Question.{Question}
-use Rattle.spk.specs.declared.Memory.{Memory}
 use Rattle.spk.specs.declared.Way.{Way}
 use Rattle.spk.specs.declared.Way.TheVariants as ways
 use Rattle.spk.specs.declared.Answer.{Answer}
 use Rattle.spk.specs.declared.Asked.{Asked}
 use Rattle.spk.specs.Questions.{is_same, swapped, hits}
-use Rattle.spk.specs.Choosing.{last_reversed, forward_in}
+use Rattle.spk.specs.Choosing.{Memory, last_reversed, forward_in}
 use Rattle.spk.specs.Answers.{answer_of, refused_answer, same_answer, settled, negated_of, difference_of}
 use Rattle.spk.specs.Asking.{Found, leg_from, chained, backward, found_by, answer_to, asked}
 use Rattle.spk.specs.Turning.{is_refused}
@@ -67,25 +61,25 @@ pub answer_refused : (r s : Refusal) → (refused_answer r).way ≡ ways.Refused
 answer_refused r s h = let e : ◌≡◌ {A = Way} (ways.Refused r) (ways.Refused s) = sym (way_refused r) ∙ h in cc
 
 -- why an evaluation that was settled is refused: by itself, or by 15
-pub settled_why : (way : Way) (e : Yielded) (r : Refusal) → is_refused way ≡ false → (settled way e).way ≡ ways.Refused r
-    → (e ≡ yielded.Refused r) ⊎ ((g : Given) × (e ≡ yielded.Given g) × (finite_state g.state ≡ false) × (NotFinite ≡ r))
+pub settled_why : (way : Way) (e : Result Given Refusal) (r : Refusal) → is_refused way ≡ false → (settled way e).way ≡ ways.Refused r
+    → (e ≡ Err r) ⊎ ((g : Given) × (e ≡ Ok g) × (finite_state g.state ≡ false) × (NotFinite ≡ r))
 unfolding settled
-settled_why way (yielded.Refused x) r w h = inl (ap yielded.Refused (answer_refused x r h))
-settled_why way (yielded.Given g) r w h = go (finite_state g.state) refl h
+settled_why way (Err x) r w h = inl (ap Err (answer_refused x r h))
+settled_why way (Ok g) r w h = go (finite_state g.state) refl h
   where
     go : (b : Bool) → finite_state g.state ≡ b → (cond b (answer_of way g) (refused_answer NotFinite)).way ≡ ways.Refused r
-        → (◌≡◌ {A = Yielded} (yielded.Given g) (yielded.Refused r)) ⊎ ((x : Given) × (yielded.Given g ≡ yielded.Given x) × (finite_state x.state ≡ false) × (NotFinite ≡ r))
+        → (◌≡◌ {A = Result Given Refusal} (Ok g) (Err r)) ⊎ ((x : Given) × ◌≡◌ {A = Result Given Refusal} (Ok g) (Ok x) × (finite_state x.state ≡ false) × (NotFinite ≡ r))
     go true f e = absurd (true≢false (sym (ap is_refused e) ∙ w))
     go false f e = inr (g, refl, f, answer_refused NotFinite r e)
 
 -- what an evaluation that was settled and is no refusal gave, and that the answer holds it
-pub settled_gives : (way : Way) (e : Yielded) → is_refused (settled way e).way ≡ false → (g : Given) × (e ≡ yielded.Given g) × ((settled way e).given ≡ g)
+pub settled_gives : (way : Way) (e : Result Given Refusal) → is_refused (settled way e).way ≡ false → (g : Given) × (e ≡ Ok g) × ((settled way e).given ≡ g)
 unfolding settled refused_answer
-settled_gives way (yielded.Refused r) h = absurd (true≢false h)
-settled_gives way (yielded.Given g) h = go (finite_state g.state) h
+settled_gives way (Err r) h = absurd (true≢false h)
+settled_gives way (Ok g) h = go (finite_state g.state) h
   where
     go : (b : Bool) → is_refused (cond b (answer_of way g) (refused_answer NotFinite)).way ≡ false
-        → (x : Given) × (yielded.Given g ≡ yielded.Given x) × ((cond b (answer_of way g) (refused_answer NotFinite)).given ≡ x)
+        → (x : Given) × ◌≡◌ {A = Result Given Refusal} (Ok g) (Ok x) × ((cond b (answer_of way g) (refused_answer NotFinite)).given ≡ x)
     go true e = (g, refl, refl)
     go false e = absurd (true≢false e)
 
@@ -93,33 +87,33 @@ same_open : (r : Refusal) → same_answer.way ≡ ways.Refused r → ⊥
 unfolding same_answer
 same_open r h = clash (cc)
 
-pub given_open : {X : Type 0} (g : Given) (r : Refusal) → ◌≡◌ {A = Yielded} (yielded.Given g) (yielded.Refused r) → X
+pub given_open : {X : Type 0} (g : Given) (r : Refusal) → ◌≡◌ {A = Result Given Refusal} (Ok g) (Err r) → X
 given_open g r h = clash (cc)
 
-refusal_eq : (r s : Refusal) → ◌≡◌ {A = Yielded} (yielded.Refused r) (yielded.Refused s) → r ≡ s
+refusal_eq : (r s : Refusal) → ◌≡◌ {A = Result Given Refusal} (Err r) (Err s) → r ≡ s
 refusal_eq r s h = cc
 
 -- what a segment gives is a refusal, or a state, exactly where its evaluation is
-pub yield_why : (s : Segment) (e : Evaluated) (r : Refusal) → yield_of s e ≡ yielded.Refused r → e ≡ evaluation.Refused r
-yield_why s (evaluation.State x) r h = given_open _ r h
-yield_why s (evaluation.Refused x) r h = ap evaluation.Refused (refusal_eq x r h)
+pub yield_why : (s : Segment) (e : Result Valued Refusal) (r : Refusal) → yield_of s e ≡ Err r → e ≡ Err r
+yield_why s (Ok x) r h = given_open _ r h
+yield_why s (Err x) r h = ap Err (refusal_eq x r h)
 
-pub negated_why : (e : Yielded) (r : Refusal) → negated_of e ≡ yielded.Refused r → e ≡ yielded.Refused r
+pub negated_why : (e : Result Given Refusal) (r : Refusal) → negated_of e ≡ Err r → e ≡ Err r
 unfolding negated_of
-negated_why (yielded.Given g) r h = given_open _ r h
-negated_why (yielded.Refused x) r h = h
+negated_why (Ok g) r h = given_open _ r h
+negated_why (Err x) r h = h
 
-pub given_one : (a b : Given) → ◌≡◌ {A = Yielded} (yielded.Given a) (yielded.Given b) → a ≡ b
+pub given_one : (a b : Given) → ◌≡◌ {A = Result Given Refusal} (Ok a) (Ok b) → a ≡ b
 given_one a b h = cc
 
-pub yield_gives : (s : Segment) (e : Evaluated) (g : Given) → yield_of s e ≡ yielded.Given g → (x : Valued) × (e ≡ evaluation.State x) × (given_by s x ≡ g)
-yield_gives s (evaluation.State x) g h = (x, refl, given_one _ g h)
-yield_gives s (evaluation.Refused r) g h = given_open g r (sym h)
+pub yield_gives : (s : Segment) (e : Result Valued Refusal) (g : Given) → yield_of s e ≡ Ok g → (x : Valued) × (e ≡ Ok x) × (given_by s x ≡ g)
+yield_gives s (Ok x) g h = (x, refl, given_one _ g h)
+yield_gives s (Err r) g h = given_open g r (sym h)
 
-negated_gives : (e : Yielded) (g : Given) → negated_of e ≡ yielded.Given g → (x : Given) × (e ≡ yielded.Given x) × (negated_given x ≡ g)
+negated_gives : (e : Result Given Refusal) (g : Given) → negated_of e ≡ Ok g → (x : Given) × (e ≡ Ok x) × (negated_given x ≡ g)
 unfolding negated_of
-negated_gives (yielded.Given x) g h = (x, refl, given_one _ g h)
-negated_gives (yielded.Refused x) g h = given_open g x (sym h)
+negated_gives (Ok x) g h = (x, refl, given_one _ g h)
+negated_gives (Err x) g h = given_open g x (sym h)
 
 -- a number of an evaluation's own
 pub own_within : (k : ℕ) → (eqb k 12 || eqb k 13 || eqb k 14) ≡ true → (12 ≤ k) × (k ≤ 14)
@@ -133,14 +127,14 @@ own_within k h =
 -- ---- the chain is refused exactly where one of its walks is
 module _ (ev : Evaluation) (segs : List Segment) (n : ℕ) (q : Question) where
   -- what holds of a walk that is refused
-  in_chain : (P : Leg → Type 0) (r : Refusal) → ((leg : Leg) → P leg → walk_from ev segs n leg chain_limit ≡ yielded.Refused r) → InChain ev segs n P q
-      → chained ev segs n q ≡ yielded.Refused r
+  in_chain : (P : Leg → Type 0) (r : Refusal) → ((leg : Leg) → P leg → walk_from ev segs n leg chain_limit ≡ Err r) → InChain ev segs n P q
+      → chained ev segs n q ≡ Err r
   unfolding chained difference_of
   in_chain P r f w =
-      ⊎_elim (λ x. ap (λ (e : Yielded). difference_of e (to_zero ev segs n (leg_from (swapped q)))) (of q x))
+      ⊎_elim (λ x. ap (λ (e : Result Given Refusal). difference_of e (to_zero ev segs n (leg_from (swapped q)))) (of q x))
       (λ x. ap₂ difference_of x.0.1 (of (swapped q) x.1)) w
     where
-      of : (p : Question) → OfWalk ev segs n P p → to_zero ev segs n (leg_from p) ≡ yielded.Refused r
+      of : (p : Question) → OfWalk ev segs n P p → to_zero ev segs n (leg_from p) ≡ Err r
       of p x = zero_walk ev segs n (leg_from p) x.0 ∙ f (leg_from p) x.1
 
   -- why it is refused: by a segment, or stuck
@@ -149,39 +143,39 @@ module _ (ev : Evaluation) (segs : List Segment) (n : ℕ) (q : Question) where
       ((i : ℕ) × InChain ev segs n (λ leg. Failed ev segs n leg chain_limit i r) q)
       ⊎ ((b : ℤ) × InChain ev segs n (λ leg. Stuck ev segs n leg chain_limit b) q × (NoCoverage b ≡ r))
 
-  chain_why : (r : Refusal) → chained ev segs n q ≡ yielded.Refused r → Why-chain r
+  chain_why : (r : Refusal) → chained ev segs n q ≡ Err r → Why-chain r
   unfolding chained difference_of
   chain_why r h = go (to_zero ev segs n (leg_from q)) (to_zero ev segs n (leg_from (swapped q))) refl refl h
     where
-      go : (a b : Yielded) → to_zero ev segs n (leg_from q) ≡ a → to_zero ev segs n (leg_from (swapped q)) ≡ b → difference_of a b ≡ yielded.Refused r → Why-chain r
-      go (yielded.Given x) (yielded.Given y) u v e = given_open _ r e
-      go (yielded.Given x) (yielded.Refused y) u v e =
+      go : (a b : Result Given Refusal) → to_zero ev segs n (leg_from q) ≡ a → to_zero ev segs n (leg_from (swapped q)) ≡ b → difference_of a b ≡ Err r → Why-chain r
+      go (Ok x) (Ok y) u v e = given_open _ r e
+      go (Ok x) (Err y) u v e =
           let w = zero_why ev segs n (leg_from (swapped q)) r (v ∙ e) in
           ⊎_elim (λ f. inl (f.0, inr ((x, u), (w.0, f.1)))) (λ s. inr (s.0, inr ((x, u), (w.0, s.1)), s.2)) w.1
-      go (yielded.Refused x) b u v e =
+      go (Err x) b u v e =
           let w = zero_why ev segs n (leg_from q) r (u ∙ e) in
           ⊎_elim (λ f. inl (f.0, inl (w.0, f.1))) (λ s. inr (s.0, inl (w.0, s.1), s.2)) w.1
 
   -- a state, of both walks
-  chain_gives : (g : Given) → chained ev segs n q ≡ yielded.Given g
+  chain_gives : (g : Given) → chained ev segs n q ≡ Ok g
       → (a : Arrives ev segs n q) × (b : Arrives ev segs n (swapped q)) × (minus_given a.0 b.0 ≡ g)
   unfolding chained difference_of
   chain_gives g h = go (to_zero ev segs n (leg_from q)) (to_zero ev segs n (leg_from (swapped q))) refl refl h
     where
-      go : (a b : Yielded) → to_zero ev segs n (leg_from q) ≡ a → to_zero ev segs n (leg_from (swapped q)) ≡ b → difference_of a b ≡ yielded.Given g
+      go : (a b : Result Given Refusal) → to_zero ev segs n (leg_from q) ≡ a → to_zero ev segs n (leg_from (swapped q)) ≡ b → difference_of a b ≡ Ok g
           → (x : Arrives ev segs n q) × (y : Arrives ev segs n (swapped q)) × (minus_given x.0 y.0 ≡ g)
-      go (yielded.Given x) (yielded.Given y) u v e = ((x, u), (y, v), given_one _ g e)
-      go (yielded.Given x) (yielded.Refused y) u v e = given_open g y (sym e)
-      go (yielded.Refused x) b u v e = given_open g x (sym e)
+      go (Ok x) (Ok y) u v e = ((x, u), (y, v), given_one _ g e)
+      go (Ok x) (Err y) u v e = given_open g y (sym e)
+      go (Err x) b u v e = given_open g x (sym e)
 
 -- a choice's way is no refusal
-way_open : (ev : Evaluation) (segs : List Segment) (n : ℕ) (q : Question) (c : Choice) → is_refused (found_by ev segs n q c).way ≡ false
-way_open ev segs n q (At i) = refl
-way_open ev segs n q Nothing = go (last_reversed segs n q)
+way_open : (ev : Evaluation) (segs : List Segment) (n : ℕ) (q : Question) (c : Option ℕ) → is_refused (found_by ev segs n q c).way ≡ false
+way_open ev segs n q (Some i) = refl
+way_open ev segs n q None = go (last_reversed segs n q)
   where
-    go : (c : Choice) → is_refused (backward ev segs n q c).way ≡ false
-    go (At i) = refl
-    go Nothing = refl
+    go : (c : Option ℕ) → is_refused (backward ev segs n q c).way ≡ false
+    go (Some i) = refl
+    go None = refl
 
 module _ (limit : ℕ) (ev : Evaluation) (segs : List Segment) (n : ℕ) (m : Memory) (q : Question) where
   -- ---- what a question results in before 15
@@ -193,60 +187,60 @@ module _ (limit : ℕ) (ev : Evaluation) (segs : List Segment) (n : ℕ) (m : Me
     by : (i : ℕ) → Refuses limit ev segs n m q i r → Found-why r
     stuck : (b : ℤ) → Chaining limit ev segs n m q → InChain ev segs n (λ leg. Stuck ev segs n leg chain_limit b) q → NoCoverage b ≡ r → Found-why r
 
-  found_why : (r : Refusal) → found.result ≡ yielded.Refused r → Found-why r
+  found_why : (r : Refusal) → found.result ≡ Err r → Found-why r
   found_why r h = go (forward_in segs n m q) refl h
     where
-      back : (c : Choice) → forward_in segs n m q ≡ Nothing → last_reversed segs n q ≡ c → (backward ev segs n q c).result ≡ yielded.Refused r → Found-why r
-      back (At i) e f x = by i (reversed e f (yield_why (seg segs i) _ r (negated_why _ r x)))
-      back Nothing e f x =
+      back : (c : Option ℕ) → forward_in segs n m q ≡ None → last_reversed segs n q ≡ c → (backward ev segs n q c).result ≡ Err r → Found-why r
+      back (Some i) e f x = by i (reversed e f (yield_why (seg segs i) _ r (negated_why _ r x)))
+      back None e f x =
           let c : Chaining limit ev segs n m q = record { forward = e; reversed = f } in
           ⊎_elim (λ w. by w.0 (when.chained c w.1)) (λ w. stuck w.0 c w.1 w.2) (chain_why ev segs n q r x)
 
-      go : (c : Choice) → forward_in segs n m q ≡ c → (found_by ev segs n q c).result ≡ yielded.Refused r → Found-why r
-      go (At i) e x = by i (forward e (yield_why (seg segs i) _ r x))
-      go Nothing e x = back (last_reversed segs n q) e refl x
+      go : (c : Option ℕ) → forward_in segs n m q ≡ c → (found_by ev segs n q c).result ≡ Err r → Found-why r
+      go (Some i) e x = by i (forward e (yield_why (seg segs i) _ r x))
+      go None e x = back (last_reversed segs n q) e refl x
 
-  found_chain : (e : Yielded) → Chaining limit ev segs n m q → chained ev segs n q ≡ e → found.result ≡ e
+  found_chain : (e : Result Given Refusal) → Chaining limit ev segs n m q → chained ev segs n q ≡ e → found.result ≡ e
   found_chain e c h =
-      ap (λ (x : Choice). (found_by ev segs n q x).result) c.forward ∙ ap (λ (x : Choice). (backward ev segs n q x).result) c.reversed ∙ h
+      ap (λ (x : Option ℕ). (found_by ev segs n q x).result) c.forward ∙ ap (λ (x : Option ℕ). (backward ev segs n q x).result) c.reversed ∙ h
 
-  found_refused : (r : Refusal) → Found-why r → found.result ≡ yielded.Refused r
-  found_refused r (by i (forward e v)) = ap (λ (x : Choice). (found_by ev segs n q x).result) e ∙ ap (yield_of (seg segs i)) v
+  found_refused : (r : Refusal) → Found-why r → found.result ≡ Err r
+  found_refused r (by i (forward e v)) = ap (λ (x : Option ℕ). (found_by ev segs n q x).result) e ∙ ap (yield_of (seg segs i)) v
   found_refused r (by i (reversed e f v)) =
-      ap (λ (x : Choice). (found_by ev segs n q x).result) e ∙ ap (λ (x : Choice). (backward ev segs n q x).result) f ∙ negated_refused _ r (ap (yield_of (seg segs i)) v)
+      ap (λ (x : Option ℕ). (found_by ev segs n q x).result) e ∙ ap (λ (x : Option ℕ). (backward ev segs n q x).result) f ∙ negated_refused _ r (ap (yield_of (seg segs i)) v)
   found_refused r (by i (when.chained c w)) =
-      found_chain (yielded.Refused r) c (in_chain ev segs n q (λ leg. Failed ev segs n leg chain_limit i r) r (λ leg. failed_where ev segs n leg chain_limit i r) w)
+      found_chain (Err r) c (in_chain ev segs n q (λ leg. Failed ev segs n leg chain_limit i r) r (λ leg. failed_where ev segs n leg chain_limit i r) w)
   found_refused r (stuck b c w e) =
-      found_chain (yielded.Refused r) c
-      (in_chain ev segs n q (λ leg. Stuck ev segs n leg chain_limit b) r (λ leg x. stuck_where ev segs n leg chain_limit b x ∙ ap yielded.Refused e) w)
+      found_chain (Err r) c
+      (in_chain ev segs n q (λ leg. Stuck ev segs n leg chain_limit b) r (λ leg x. stuck_where ev segs n leg chain_limit b x ∙ ap Err e) w)
 
   -- a state, and by which way
-  found_gives : (g : Given) → found.result ≡ yielded.Given g → Gives limit ev segs n m q g
+  found_gives : (g : Given) → found.result ≡ Ok g → Gives limit ev segs n m q g
   found_gives g h = go (forward_in segs n m q) refl h
     where
-      back : (c : Choice) → forward_in segs n m q ≡ Nothing → last_reversed segs n q ≡ c → (backward ev segs n q c).result ≡ yielded.Given g → Gives limit ev segs n m q g
-      back (At i) e f x =
+      back : (c : Option ℕ) → forward_in segs n m q ≡ None → last_reversed segs n q ≡ c → (backward ev segs n q c).result ≡ Ok g → Gives limit ev segs n m q g
+      back (Some i) e f x =
           let w = negated_gives _ g x in
           let v = yield_gives (seg segs i) _ w.0 w.1 in
           by_reversed i v.0 e f v.1 (ap negated_given v.2 ∙ w.2)
-      back Nothing e f x = let w = chain_gives ev segs n q g x in by_chain (record { forward = e; reversed = f }) w.0 w.1 w.2
+      back None e f x = let w = chain_gives ev segs n q g x in by_chain (record { forward = e; reversed = f }) w.0 w.1 w.2
 
-      go : (c : Choice) → forward_in segs n m q ≡ c → (found_by ev segs n q c).result ≡ yielded.Given g → Gives limit ev segs n m q g
-      go (At i) e x = let v = yield_gives (seg segs i) _ g x in by_forward i v.0 e v.1 v.2
-      go Nothing e x = back (last_reversed segs n q) e refl x
+      go : (c : Option ℕ) → forward_in segs n m q ≡ c → (found_by ev segs n q c).result ≡ Ok g → Gives limit ev segs n m q g
+      go (Some i) e x = let v = yield_gives (seg segs i) _ g x in by_forward i v.0 e v.1 v.2
+      go None e x = back (last_reversed segs n q) e refl x
 
-  gives_found : (g : Given) → Gives limit ev segs n m q g → found.result ≡ yielded.Given g
+  gives_found : (g : Given) → Gives limit ev segs n m q g → found.result ≡ Ok g
   unfolding chained difference_of
-  gives_found g (by_forward i x e v z) = ap (λ (y : Choice). (found_by ev segs n q y).result) e ∙ ap (yield_of (seg segs i)) v ∙ ap yielded.Given z
+  gives_found g (by_forward i x e v z) = ap (λ (y : Option ℕ). (found_by ev segs n q y).result) e ∙ ap (yield_of (seg segs i)) v ∙ ap Ok z
   gives_found g (by_reversed i x e f v z) =
-      ap (λ (y : Choice). (found_by ev segs n q y).result) e
-      ∙ ap (λ (y : Choice). (backward ev segs n q y).result) f
+      ap (λ (y : Option ℕ). (found_by ev segs n q y).result) e
+      ∙ ap (λ (y : Option ℕ). (backward ev segs n q y).result) f
       ∙ negated_state_lem _ (given_by (seg segs i) x) (ap (yield_of (seg segs i)) v)
-      ∙ ap yielded.Given z
-  gives_found g (by_chain c a b z) = found_chain (yielded.Given g) c (ap₂ difference_of a.1 b.1 ∙ ap yielded.Given z)
+      ∙ ap Ok z
+  gives_found g (by_chain c a b z) = found_chain (Ok g) c (ap₂ difference_of a.1 b.1 ∙ ap Ok z)
 
   -- the segment that refuses is of the table, and is evaluated so
-  pub refuses_own : (i : ℕ) (r : Refusal) → Refuses limit ev segs n m q i r → (i < n) × (ev (seg segs i) i q.et ≡ evaluation.Refused r)
+  pub refuses_own : (i : ℕ) (r : Refusal) → Refuses limit ev segs n m q i r → (i < n) × (ev (seg segs i) i q.et ≡ Err r)
   refuses_own i r (forward e v) = ((forged_forward segs n m q i e).0, v)
   refuses_own i r (reversed e f v) = ((chosen_at (hits (swapped q)) segs n _ i f (last_chosen (hits (swapped q)) segs n)).0, v)
   refuses_own i r (when.chained c w) =
@@ -260,7 +254,7 @@ module _ (limit : ℕ) (ev : Evaluation) (segs : List Segment) (n : ℕ) (m : Me
     own : WhenOwn limit ev segs n m q r → Why r
     infinite : When15 limit ev segs n m q → NotFinite ≡ r → Why r
 
-  choice : Choice
+  choice : Option ℕ
   choice = forward_in segs n m q
 
   -- what was settled past the first three tests
@@ -312,14 +306,14 @@ module _ (limit : ℕ) (ev : Evaluation) (segs : List Segment) (n : ℕ) (m : Me
   pub answered_gives : Open limit n q → is_refused (answer limit ev segs n m q).way ≡ false → Gives limit ev segs n m q (answer limit ev segs n m q).given
   answered_gives o h =
       let w = settled_gives found.way found.result (ap (λ (a : Answer). is_refused a.way) (sym (past_way o)) ∙ h) in
-      found_gives _ (w.1 ∙ ap yielded.Given (sym w.2 ∙ ap (λ (a : Answer). a.given) (sym (past_way o))))
+      found_gives _ (w.1 ∙ ap Ok (sym w.2 ∙ ap (λ (a : Answer). a.given) (sym (past_way o))))
 
   -- **refused-zeros**: with a refusal stand six zeros and no segment
   pub refused_zeros : (r : Refusal) → RefusedBy limit ev segs n m q r → answer limit ev segs n m q ≡ refused_answer r
   refused_zeros r h = whole r (why r h)
 
   -- where the count fits and no segment of the table is refused with 14, no question is
-  pub never_14 : n ≤ limit → ((i : ℕ) → i < n → (et : Float) → ev (seg segs i) i et ≡ evaluation.Refused TableUnfit → ⊥) → RefusedBy limit ev segs n m q TableUnfit → ⊥
+  pub never_14 : n ≤ limit → ((i : ℕ) → i < n → (et : Float) → ev (seg segs i) i et ≡ Err TableUnfit → ⊥) → RefusedBy limit ev segs n m q TableUnfit → ⊥
   never_14 le fit h = only (why TableUnfit h)
     where
       only : Why TableUnfit → ⊥

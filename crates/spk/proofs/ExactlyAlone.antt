@@ -15,7 +15,7 @@ use Rattle.refusal.specs.declared.Refusal.{Refusal}
 use Rattle.refusal.specs.declared.Refusal.TheVariants.{EpochNan, TableUnfit, NotFinite, NoSegment}
 use Rattle.refusal.specs.Numbers.{number_of}
 use Rattle.segment.specs.declared.Segment.{Segment}
-use Rattle.segment.specs.declared.Evaluated.TheVariants as evaluation
+use Rattle.std.proofs.Common.{Err}
 use Rattle.table.specs.Segments.{seg}
 use Rattle.frame.specs.declared.Given.{Given}
 use Rattle.frame.specs.State.{finite_state}
@@ -97,7 +97,7 @@ module _ (limit : ℕ) (ev : Evaluation) (segs : List Segment) (n i : ℕ) (et :
       only (own w) = inr w
       only (infinite w x) = clash (cc)
 
-  pub alone_never_14 : n ≤ limit → ((j : ℕ) → j < n → (t : Float) → ev (seg segs j) j t ≡ evaluation.Refused TableUnfit → ⊥) → AloneBy limit ev segs n i et TableUnfit → ⊥
+  pub alone_never_14 : n ≤ limit → ((j : ℕ) → j < n → (t : Float) → ev (seg segs j) j t ≡ Err TableUnfit → ⊥) → AloneBy limit ev segs n i et TableUnfit → ⊥
   alone_never_14 le fit h = ⊎_elim (λ l. omega arith) (λ w. fit i w.past.below et w.given) (alone_14.1 h)
 
   -- **exactly-when**, 12 and 13: the segment is evaluated to it

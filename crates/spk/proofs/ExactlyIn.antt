@@ -29,17 +29,16 @@ use Rattle.refusal.specs.declared.Refusal.{Refusal}
 use Rattle.refusal.specs.declared.Refusal.TheVariants.{NotFinite, OtherFrame}
 use Rattle.refusal.specs.Numbers.{number_of}
 use Rattle.segment.specs.declared.Segment.{Segment}
-use Rattle.chain.specs.declared.Yielded.TheVariants as yielded
+use Rattle.std.proofs.Common.{Ok}
 use Rattle.chain.specs.Step.{Evaluation}
 use Rattle.chain.specs.When.{OwnOnly}
 use Rattle.chain.proofs.Ends.{clash}
 use Rattle.spk.specs.declared.Question.{Question}
-use Rattle.spk.specs.declared.Memory.{Memory}
+use Rattle.spk.specs.Choosing.{Memory}
 use Rattle.spk.specs.declared.Answer.{Answer}
 use Rattle.spk.specs.declared.Way.{Way}
 use Rattle.spk.specs.declared.Way.TheVariants as ways
-use Rattle.spk.specs.declared.Wanted.{Wanted}
-use Rattle.spk.specs.declared.Wanted.TheVariants.{AsItStands, In}
+use Rattle.std.proofs.Common.{Option, Some, None}
 use Rattle.spk.specs.Answers.{refused_answer, settled}
 use Rattle.spk.specs.Asking.{asked}
 use Rattle.spk.specs.Turning.{frame_of, is_refused, turned_by, turned_answer, asked_in}
@@ -50,10 +49,10 @@ use Rattle.spk.proofs.Exactly.{way_refused, answer_refused, settled_why, given_o
 
 -- ---- any answer in a frame
 -- a state that was settled is refused with 15 alone
-settled_15 : (way : Way) (g : Given) (r : Refusal) → is_refused way ≡ false → (settled way (yielded.Given g)).way ≡ ways.Refused r
-    → (NotFinite ≡ r) × (settled way (yielded.Given g) ≡ refused_answer r)
+settled_15 : (way : Way) (g : Given) (r : Refusal) → is_refused way ≡ false → (settled way (Ok g)).way ≡ ways.Refused r
+    → (NotFinite ≡ r) × (settled way (Ok g) ≡ refused_answer r)
 settled_15 way g r e h =
-    ⊎_elim (λ p. given_open _ r p) (λ p. (p.3, settled_state way _ p.0 false p.1 p.2 ∙ ap refused_answer p.3)) (settled_why way (yielded.Given g) r e h)
+    ⊎_elim (λ p. given_open _ r p) (λ p. (p.3, settled_state way _ p.0 false p.1 p.2 ∙ ap refused_answer p.3)) (settled_why way (Ok g) r e h)
 
 by_turn : (to : ℤ) (rot : Matrix) (a : Answer) (r : Refusal) (t : Turn) → is_refused a.way ≡ false → (turned_by t to rot a).way ≡ ways.Refused r
     → ((OtherFrame ≡ r) ⊎ (NotFinite ≡ r)) × (turned_by t to rot a ≡ refused_answer r)
@@ -64,11 +63,11 @@ by_turn to rot a r Back e h = let w = settled_15 a.way _ r e h in (inr w.0, w.1)
 by_turn to rot a r Never e h = let x = answer_refused OtherFrame r h in (inl x, ap refused_answer x)
 
 -- why an answer in a frame is refused, where its own refusals stand with six zeros: as it is itself, with 21, or with 15; and then it has six zeros too
-pub turned_why : (wanted : Wanted) (rot : Matrix) (a : Answer) (r : Refusal) → ((s : Refusal) → a.way ≡ ways.Refused s → a ≡ refused_answer s)
+pub turned_why : (wanted : Option ℤ) (rot : Matrix) (a : Answer) (r : Refusal) → ((s : Refusal) → a.way ≡ ways.Refused s → a ≡ refused_answer s)
     → (turned_answer wanted rot a).way ≡ ways.Refused r
     → ((a.way ≡ ways.Refused r) ⊎ ((OtherFrame ≡ r) ⊎ (NotFinite ≡ r))) × (turned_answer wanted rot a ≡ refused_answer r)
-turned_why AsItStands rot a r z h = (inl h, z r h)
-turned_why (In to) rot a r z h =
+turned_why None rot a r z h = (inl h, z r h)
+turned_why (Some to) rot a r z h =
     by_test_lem (is_refused a.way)
     (λ e.
     let t = turned_by_lem to rot a true e in
@@ -92,13 +91,13 @@ module _ (limit : ℕ) (ev : Evaluation) (segs : List Segment) (n : ℕ) (m : Me
   turned by to = turned_given by to a.given
 
   -- why an answer in a frame is refused
-  data In-why (wanted : Wanted) (r : Refusal) : Type 0 where
+  data In-why (wanted : Option ℤ) (r : Refusal) : Type 0 where
     itself : RefusedBy limit ev segs n m q r → In-why wanted r
     apart : When21 limit ev segs n m q wanted rot → OtherFrame ≡ r → In-why wanted r
     infinite : When15Turned limit ev segs n m q wanted rot → NotFinite ≡ r → In-why wanted r
 
   by_matrix : (to : ℤ) (r : Refusal) (by : Matrix) → turns_by (turn_of (frame_of a) to) rot by → is_refused a.way ≡ false
-      → (settled a.way (yielded.Given (turned by to))).way ≡ ways.Refused r → In-why (In to) r
+      → (settled a.way (Ok (turned by to))).way ≡ ways.Refused r → In-why (Some to) r
   by_matrix to r by t e h =
       ⊎_elim (λ p. given_open _ r p)
       (λ p.
@@ -110,46 +109,46 @@ module _ (limit : ℕ) (ev : Evaluation) (segs : List Segment) (n : ℕ) (m : Me
         infinite = infinite_only (turned by to).state (ap (λ (g : Given). finite_state g.state) (given_one (turned by to) p.0 p.1) ∙ p.2);
       })
       p.3)
-      (settled_why a.way (yielded.Given (turned by to)) r e h)
+      (settled_why a.way (Ok (turned by to)) r e h)
 
-  by_why : (to : ℤ) (r : Refusal) (t : Turn) → turn_of (frame_of a) to ≡ t → is_refused a.way ≡ false → (turned_by t to rot a).way ≡ ways.Refused r → In-why (In to) r
+  by_why : (to : ℤ) (r : Refusal) (t : Turn) → turn_of (frame_of a) to ≡ t → is_refused a.way ≡ false → (turned_by t to rot a).way ≡ ways.Refused r → In-why (Some to) r
   unfolding turned_by
   by_why to r Stands e f h = absurd (true≢false (sym (ap is_refused h) ∙ f))
   by_why to r Forth e f h = by_matrix to r rot (subst (λ (t : Turn). turns_by t rot rot) (sym e) refl) f h
   by_why to r Back e f h = by_matrix to r (transpose_of rot) (subst (λ (t : Turn). turns_by t rot (transpose_of rot)) (sym e) refl) f h
   by_why to r Never e f h = never (sym (way_refused OtherFrame) ∙ h)
     where
-      never : ◌≡◌ {A = _} (ways.Refused OtherFrame) (ways.Refused r) → In-why (In to) r
+      never : ◌≡◌ {A = _} (ways.Refused OtherFrame) (ways.Refused r) → In-why (Some to) r
       never x = apart (record { framing = record { to = to; frame = refl; answered = f }; never = e }) (cc)
 
-  in_why : (wanted : Wanted) (r : Refusal) → RefusedInBy limit ev segs n m q wanted rot r → In-why wanted r
-  in_why AsItStands r h = itself h
-  in_why (In to) r h =
+  in_why : (wanted : Option ℤ) (r : Refusal) → RefusedInBy limit ev segs n m q wanted rot r → In-why wanted r
+  in_why None r h = itself h
+  in_why (Some to) r h =
       by_test_lem (is_refused a.way) (λ e. itself (ap (λ (x : Answer). x.way) (sym (turned_by_lem to rot a true e)) ∙ h))
       (λ e. by_why to r (turn_of (frame_of a) to) refl e (ap (λ (x : Answer). x.way) (sym (turned_by_lem to rot a false e)) ∙ h))
 
   -- a refusal stays as it is
-  refused_stays : (wanted : Wanted) (r : Refusal) → RefusedBy limit ev segs n m q r → (asked_in limit ev segs n m q wanted rot).answer ≡ refused_answer r
-  refused_stays AsItStands r h = refused_zeros limit ev segs n m q r h
-  refused_stays (In to) r h = turned_by_lem to rot a true (ap is_refused h) ∙ refused_zeros limit ev segs n m q r h
+  refused_stays : (wanted : Option ℤ) (r : Refusal) → RefusedBy limit ev segs n m q r → (asked_in limit ev segs n m q wanted rot).answer ≡ refused_answer r
+  refused_stays None r h = refused_zeros limit ev segs n m q r h
+  refused_stays (Some to) r h = turned_by_lem to rot a true (ap is_refused h) ∙ refused_zeros limit ev segs n m q r h
 
   -- past it, the turn decides
-  past : (wanted : Wanted) (w : Framing limit ev segs n m q wanted rot)
+  past : (wanted : Option ℤ) (w : Framing limit ev segs n m q wanted rot)
       → (asked_in limit ev segs n m q wanted rot).answer ≡ turned_by (turn_of (frame_of a) w.to) w.to rot a
-  past wanted w = ap (λ (x : Wanted). turned_answer x rot a) w.frame ∙ turned_by_lem w.to rot a false w.answered
+  past wanted w = ap (λ (x : Option ℤ). turned_answer x rot a) w.frame ∙ turned_by_lem w.to rot a false w.answered
 
-  apart_zeros : (wanted : Wanted) → When21 limit ev segs n m q wanted rot → (asked_in limit ev segs n m q wanted rot).answer ≡ refused_answer OtherFrame
+  apart_zeros : (wanted : Option ℤ) → When21 limit ev segs n m q wanted rot → (asked_in limit ev segs n m q wanted rot).answer ≡ refused_answer OtherFrame
   apart_zeros wanted w = past wanted w.framing ∙ by_never w.framing.to rot a _ w.never
 
-  turned_zeros : (wanted : Wanted) → When15Turned limit ev segs n m q wanted rot → (asked_in limit ev segs n m q wanted rot).answer ≡ refused_answer NotFinite
+  turned_zeros : (wanted : Option ℤ) → When15Turned limit ev segs n m q wanted rot → (asked_in limit ev segs n m q wanted rot).answer ≡ refused_answer NotFinite
   turned_zeros wanted w = past wanted w.framing ∙ go (turn_of (frame_of a) to) refl w.turns
     where
       to : ℤ
       to = w.framing.to
 
-      by : (x : Matrix) → x ≡ w.by → settled a.way (yielded.Given (turned x to)) ≡ refused_answer NotFinite
+      by : (x : Matrix) → x ≡ w.by → settled a.way (Ok (turned x to)) ≡ refused_answer NotFinite
       by x e =
-          ap (λ (y : Matrix). settled a.way (yielded.Given (turned y to))) e
+          ap (λ (y : Matrix). settled a.way (Ok (turned y to))) e
           ∙ settled_state a.way _ (turned w.by to) false refl (infinite_where (turned_state w.by a.given.state) w.infinite)
 
       go : (t : Turn) → turn_of (frame_of a) to ≡ t → turns_by t rot w.by → turned_by (turn_of (frame_of a) to) to rot a ≡ refused_answer NotFinite
@@ -159,13 +158,13 @@ module _ (limit : ℕ) (ev : Evaluation) (segs : List Segment) (n : ℕ) (m : Me
       go Never e x = absurd x
 
   -- **in-stands**: in the frame of its own numbers a question is answered as it is without a frame
-  pub in_stands : (f : ℤ) → frame_of a ≡ One f → asked_in limit ev segs n m q (In f) rot ≡ asked limit ev segs n m q
+  pub in_stands : (f : ℤ) → frame_of a ≡ One f → asked_in limit ev segs n m q (Some f) rot ≡ asked limit ev segs n m q
   in_stands f e =
       asked_eq _ _
       (by_test_lem (is_refused a.way) (λ t. turned_by_lem f rot a true t)
       (λ t. turned_by_lem f rot a false t ∙ by_stands f rot a _ (ap (λ (x : Framed). turn_of x f) e ∙ same_frame f))) refl
 
-  module _ (wanted : Wanted) where
+  module _ (wanted : Option ℤ) where
     in_whole : (r : Refusal) → In-why wanted r → (asked_in limit ev segs n m q wanted rot).answer ≡ refused_answer r
     in_whole r (itself h) = refused_stays wanted r h
     in_whole r (apart w x) = apart_zeros wanted w ∙ ap refused_answer x

@@ -10,14 +10,12 @@ use lib.Dec.{ltb}
 use borrow.Author.Tests.{ltb-true}
 use Rattle.bits.proofs.Tests.{by_test_lem, and_first, and_second}
 use Rattle.segment.specs.declared.Segment.{Segment}
-use Rattle.table.specs.declared.Choice.TheVariants.{At, Nothing}
+use Rattle.std.proofs.Common.{Some, None}
 use Rattle.table.specs.Segments.{seg}
 use Rattle.table.proofs.Last.{Chosen, chosen_at, chosen_else, last_chosen}
 use Rattle.spk.specs.declared.Question.{Question}
-use Rattle.spk.specs.declared.Memory.{Memory}
-use Rattle.spk.specs.declared.Memory.TheVariants.{Blank, Kept}
 use Rattle.spk.specs.Questions.{hits, serves}
-use Rattle.spk.specs.Choosing.{recall, last_forward, forward_in}
+use Rattle.spk.specs.Choosing.{Memory, recall, last_forward, forward_in}
 
 -- a choice that there is, is below the count and passes the test
 pub forward_chosen : (segs : List Segment) (n : ℕ) (m : Memory) (q : Question) → Chosen (hits q) segs n (forward_in segs n m q)
@@ -25,13 +23,13 @@ unfolding forward_in recall
 forward_chosen segs n m q = chosen_else (hits q) segs n (recall segs n m q) (last_forward segs n q) (known m) (last_chosen (hits q) segs n)
   where
     known : (x : Memory) → Chosen (hits q) segs n (recall segs n x q)
-    known Blank = tt
-    known (Kept i) =
+    known None = tt
+    known (Some i) =
         by_test_lem (ltb i n && serves q (seg segs i))
         (λ e.
-        subst (λ (b : Bool). Chosen (hits q) segs n (cond b (At i) Nothing)) (sym e)
+        subst (λ (b : Bool). Chosen (hits q) segs n (cond b (Some i) None)) (sym e)
         (ltb-true i n (and_first (ltb i n) (serves q (seg segs i)) e), and_second (seg segs i).marked (hits q (seg segs i)) (and_second (ltb i n) (serves q (seg segs i)) e)))
-        (λ e. subst (λ (b : Bool). Chosen (hits q) segs n (cond b (At i) Nothing)) (sym e) tt)
+        (λ e. subst (λ (b : Bool). Chosen (hits q) segs n (cond b (Some i) None)) (sym e) tt)
 
-pub forged_forward : (segs : List Segment) (n : ℕ) (m : Memory) (q : Question) (i : ℕ) → forward_in segs n m q ≡ At i → (i < n) × (hits q (seg segs i) ≡ true)
+pub forged_forward : (segs : List Segment) (n : ℕ) (m : Memory) (q : Question) (i : ℕ) → forward_in segs n m q ≡ Some i → (i < n) × (hits q (seg segs i) ≡ true)
 forged_forward segs n m q i e = chosen_at (hits q) segs n _ i e (forward_chosen segs n m q)

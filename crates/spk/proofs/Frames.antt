@@ -14,20 +14,18 @@ use Rattle.frame.specs.declared.Given.{Given}
 use Rattle.frame.specs.declared.Framed.TheVariants.{One}
 use Rattle.frame.specs.Framed.{j2000, joined}
 use Rattle.segment.specs.declared.Segment.{Segment}
-use Rattle.table.specs.declared.Choice.{Choice}
-use Rattle.table.specs.declared.Choice.TheVariants.{At, Nothing}
+use Rattle.std.proofs.Common.{Option, Some, None}
 use Rattle.table.specs.Segments.{seg}
 use Rattle.chain.specs.Step.{Evaluation}
 use Rattle.chain.specs.Walk.{is_zero}
 use Rattle.chain.proofs.Ends.{clash}
 use Rattle.chain.proofs.Framed.{is_framed, joined_left, joined_right, zero_framed}
 use Rattle.spk.specs.declared.Question.{Question}
-use Rattle.spk.specs.declared.Memory.{Memory}
 use Rattle.spk.specs.declared.Way.{Way}
 use Rattle.spk.specs.declared.Way.TheVariants as ways
 use Rattle.spk.specs.declared.Asked.{Asked}
 use Rattle.spk.specs.Questions.{is_same, swapped}
-use Rattle.spk.specs.Choosing.{last_reversed, forward_in}
+use Rattle.spk.specs.Choosing.{Memory, last_reversed, forward_in}
 use Rattle.spk.specs.Asking.{leg_from}
 use Rattle.spk.specs.Answers.{same_answer}
 use Rattle.spk.specs.Turning.{frame_of, is_refused}
@@ -37,10 +35,10 @@ use Rattle.spk.proofs.Exactly.{answered_gives}
 use Rattle.spk.proofs.OwnBytes.{by_state, by_state_open, open_answered, open_by, named_forward, named_reversed, named_chained}
 
 -- a choice is one segment
-pub at_eq : (i j : ℕ) → ◌≡◌ {A = Choice} (At i) (At j) → i ≡ j
+pub at_eq : (i j : ℕ) → ◌≡◌ {A = Option ℕ} (Some i) (Some j) → i ≡ j
 at_eq i j h = cc
 
-pub at_none : {X : Type 0} (i : ℕ) → ◌≡◌ {A = Choice} (At i) Nothing → X
+pub at_none : {X : Type 0} (i : ℕ) → ◌≡◌ {A = Option ℕ} (Some i) None → X
 at_none i h = clash (cc)
 
 module _ (limit : ℕ) (ev : Evaluation) (segs : List Segment) (n : ℕ) (m : Memory) (q : Question) where
@@ -54,7 +52,7 @@ module _ (limit : ℕ) (ev : Evaluation) (segs : List Segment) (n : ℕ) (m : Me
   pub frame_forward : (i : ℕ) → (answer limit ev segs n m q).way ≡ ways.Forward i → frame_of (answer limit ev segs n m q) ≡ One (seg segs i).frame
   frame_forward i h = go (gives (ways.Forward i) refl h)
     where
-      is : forward_in segs n m q ≡ At i
+      is : forward_in segs n m q ≡ Some i
       is = named_forward limit ev segs n m q i h
 
       go : {g : Given} → Gives limit ev segs n m q g → g.frame ≡ One (seg segs i).frame
@@ -65,7 +63,7 @@ module _ (limit : ℕ) (ev : Evaluation) (segs : List Segment) (n : ℕ) (m : Me
   pub frame_reversed : (i : ℕ) → (answer limit ev segs n m q).way ≡ ways.Reversed i → frame_of (answer limit ev segs n m q) ≡ One (seg segs i).frame
   frame_reversed i h = go (gives (ways.Reversed i) refl h)
     where
-      is : (forward_in segs n m q ≡ Nothing) × (last_reversed segs n q ≡ At i)
+      is : (forward_in segs n m q ≡ None) × (last_reversed segs n q ≡ Some i)
       is = named_reversed limit ev segs n m q i h
 
       go : {g : Given} → Gives limit ev segs n m q g → g.frame ≡ One (seg segs i).frame
@@ -77,7 +75,7 @@ module _ (limit : ℕ) (ev : Evaluation) (segs : List Segment) (n : ℕ) (m : Me
       → (a : Arrives ev segs n q) × (b : Arrives ev segs n (swapped q)) × (frame_of (answer limit ev segs n m q) ≡ joined a.0.frame b.0.frame)
   frame_chained h = go (gives ways.Chained refl h)
     where
-      is : (forward_in segs n m q ≡ Nothing) × (last_reversed segs n q ≡ Nothing)
+      is : (forward_in segs n m q ≡ None) × (last_reversed segs n q ≡ None)
       is = named_chained limit ev segs n m q h
 
       go : {g : Given} → Gives limit ev segs n m q g → (a : Arrives ev segs n q) × (b : Arrives ev segs n (swapped q)) × (g.frame ≡ joined a.0.frame b.0.frame)

@@ -23,7 +23,7 @@ use Rattle.frame.specs.Frame.{Matrix}
 use Rattle.refusal.specs.Order.{First, given}
 use Rattle.daf.specs.declared.Family.TheVariants.{Spk}
 use Rattle.segment.specs.declared.Segment.{Segment}
-use Rattle.segment.specs.declared.Evaluated.TheVariants as evaluation
+use Rattle.std.proofs.Common.{Err}
 use Rattle.segment.specs.Evaluating.{cases, evaluated}
 use Rattle.segment.proofs.Refusals.{refused_by_lem, never_16}
 use Rattle.segment.proofs.OwnBytes.{Agrees, own_bytes}
@@ -33,10 +33,10 @@ use Rattle.chain.specs.When.{is_own, OwnOnly}
 use Rattle.chain.proofs.Ends.{clash}
 use Rattle.chain.proofs.Own.{Alike}
 use Rattle.spk.specs.declared.Question.{Question}
-use Rattle.spk.specs.declared.Memory.{Memory}
+use Rattle.spk.specs.Choosing.{Memory}
 use Rattle.spk.specs.declared.Way.TheVariants.{Forward, Reversed}
 use Rattle.spk.specs.declared.Asked.{Asked}
-use Rattle.spk.specs.declared.Wanted.{Wanted}
+use Rattle.std.proofs.Common.{Option}
 use Rattle.spk.specs.Answers.{refused_answer}
 use Rattle.spk.specs.Turning.{asked_in}
 use Rattle.spk.specs.Asking.{asked}
@@ -57,7 +57,7 @@ own_only k s i et r e = let c = refused_by_lem Spk k s i et r e in go c.0 c.1 c.
     go zero h q = ap is_own q
     go (suc zero) h q = ap is_own q
     go (suc (suc zero)) h q = ap is_own q
-    go (suc (suc (suc zero))) h q = absurd (never_16 Spk k s i et i (e ∙ ap evaluation.Refused q))
+    go (suc (suc (suc zero))) h q = absurd (never_16 Spk k s i et i (e ∙ ap Err q))
     go (suc (suc (suc (suc j)))) h q = absurd h.1.1.1.1
 
 -- what a kernel is asked, with a table: a list of segments, their count and the limit, by value or lent
@@ -93,7 +93,7 @@ module _ (k : List ℕ) (limit : ℕ) (segs : List Segment) (n : ℕ) where
     state_zeros = refused_zeros limit ev segs n m q
 
     -- `state_in`
-    module _ (wanted : Wanted) (rot : Matrix) where
+    module _ (wanted : Option ℤ) (rot : Matrix) where
       abbrev In : Refusal → Type 0
       In r = RefusedInBy limit ev segs n m q wanted rot r
 

@@ -8,6 +8,7 @@ pub mod Finding
 pub mod Fits
 pub mod Forged
 pub mod Frames
+pub mod Handed
 pub mod InKernel
 pub mod NoMemory
 pub mod Order

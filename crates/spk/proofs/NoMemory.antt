@@ -26,19 +26,16 @@ use Rattle.bits.proofs.Tests.{by_test_lem, and_first, and_second, and_both, or_l
 use Rattle.refusal.specs.declared.Refusal.TheVariants.{TableUnfit, EpochNan}
 use Rattle.refusal.specs.Order.{case, first_of}
 use Rattle.segment.specs.declared.Segment.{Segment}
-use Rattle.table.specs.declared.Choice.{Choice}
-use Rattle.table.specs.declared.Choice.TheVariants.{At, Nothing}
+use Rattle.std.proofs.Common.{Option, Some, None}
 use Rattle.table.specs.Segments.{is_covering, overlaps, seg}
-use Rattle.table.specs.Choosing.{or_else}
+use Rattle.std.specs.Option.{option_or}
 use Rattle.table.specs.Marks.{rivals, others, MarkedRight}
 use Rattle.table.proofs.Last.{last_alone}
 use Rattle.chain.specs.Step.{Evaluation}
 use Rattle.spk.specs.declared.Question.{Question}
-use Rattle.spk.specs.declared.Memory.{Memory}
-use Rattle.spk.specs.declared.Memory.TheVariants.{Blank, Kept}
 use Rattle.spk.specs.declared.Asked.{Asked}
 use Rattle.spk.specs.Questions.{is_same, is_pair, hits, serves}
-use Rattle.spk.specs.Choosing.{recall, last_forward, forward_in, remembered}
+use Rattle.spk.specs.Choosing.{Memory, recall, last_forward, forward_in, remembered}
 use Rattle.spk.specs.Answers.{refused_answer, same_answer}
 use Rattle.spk.specs.Asking.{found_by, answer_to, asked_by, asked}
 use Rattle.spk.specs.Turning.{turned_answer}
@@ -100,8 +97,8 @@ module _ (segs : List Segment) (n : ℕ) (right : MarkedRight segs n) where
   -- the forward choice with any memory is the pair's last covering segment
   pub forward_last : (m : Memory) (q : Question) → forward_in segs n m q ≡ last_forward segs n q
   unfolding forward_in recall
-  forward_last Blank q = refl
-  forward_last (Kept i) q =
+  forward_last None q = refl
+  forward_last (Some i) q =
       by_test_lem (ltb i n && serves q (seg segs i))
       (λ e.
       let h = ltb-true i n (and_first (ltb i n) (serves q (seg segs i)) e) in
@@ -109,12 +106,12 @@ module _ (segs : List Segment) (n : ℕ) (right : MarkedRight segs n) where
       ap pick e ∙ sym (last_alone (hits q) segs i n h (and_second (seg segs i).marked (hits q (seg segs i)) s) (alone q i h s)))
       (λ e. ap pick e)
     where
-      pick : Bool → Choice
-      pick b = or_else (cond b (At i) Nothing) (last_forward segs n q)
+      pick : Bool → Option ℕ
+      pick b = option_or (cond b (Some i) None) (last_forward segs n q)
 
   module _ (limit : ℕ) (ev : Evaluation) where
     -- what is remembered does not show in the answer to a choice
-    by_choice : (m : Memory) (q : Question) (c : Choice) → (asked_by limit ev segs n m q c).answer ≡ (asked_by limit ev segs n Blank q c).answer
+    by_choice : (m : Memory) (q : Question) (c : Option ℕ) → (asked_by limit ev segs n m q c).answer ≡ (asked_by limit ev segs n None q c).answer
     unfolding asked_by
     by_choice m q c = go (is_same q) (ltb limit n) (is_nan q.et)
       where
@@ -124,7 +121,7 @@ module _ (segs : List Segment) (n : ℕ) (right : MarkedRight segs n) where
             (first_of (case b TableUnfit ∷ case d EpochNan ∷ []) (λ r. record { answer = refused_answer r; memory = x })
             (record { answer = answer_to (found_by ev segs n q c); memory = remembered segs x c }))
 
-        go : (a b d : Bool) → (tests m a b d).answer ≡ (tests Blank a b d).answer
+        go : (a b d : Bool) → (tests m a b d).answer ≡ (tests None a b d).answer
         go true b d = refl
         go false true d = refl
         go false false true = refl
@@ -133,7 +130,7 @@ module _ (segs : List Segment) (n : ℕ) (right : MarkedRight segs n) where
     -- a state, whatever is remembered
     once : (m : Memory) (q : Question) → (asked limit ev segs n m q).answer ≡ answered limit ev segs n q
     once m q =
-        by_choice m q (forward_in segs n m q) ∙ ap (λ (c : Choice). (asked_by limit ev segs n Blank q c).answer) (forward_last m q)
+        by_choice m q (forward_in segs n m q) ∙ ap (λ (c : Option ℕ). (asked_by limit ev segs n None q c).answer) (forward_last m q)
 
     -- a question of any kind, whatever is remembered
     pub no_memory_once : (m : Memory) (a : Asking) → (replied limit ev segs n m a).answer ≡ fresh limit ev segs n a

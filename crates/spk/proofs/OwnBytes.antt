@@ -26,26 +26,22 @@ use Rattle.refusal.specs.declared.Refusal.{Refusal}
 use Rattle.refusal.specs.declared.Refusal.TheVariants.{TableUnfit, EpochNan, NotFinite, OtherFrame}
 use Rattle.refusal.specs.Order.{case, first_of}
 use Rattle.segment.specs.declared.Segment.{Segment}
-use Rattle.segment.specs.declared.Evaluated.{Evaluated}
+use Rattle.std.proofs.Common.{Result, Ok, Err}
+use Rattle.segment.specs.declared.Valued.{Valued}
 use Rattle.table.specs.Segments.{seg}
-use Rattle.table.specs.declared.Choice.{Choice}
-use Rattle.table.specs.declared.Choice.TheVariants.{At, Nothing}
-use Rattle.chain.specs.declared.Yielded.{Yielded}
-use Rattle.chain.specs.declared.Yielded.TheVariants as yielded
+use Rattle.std.proofs.Common.{Option, Some, None}
+use Rattle.frame.specs.declared.Given.{Given}
 use Rattle.chain.specs.Step.{Evaluation, yield_of}
 use Rattle.chain.specs.Walk.{chain_limit, to_zero}
 use Rattle.chain.proofs.Ends.{clash}
 use Rattle.chain.proofs.Own.{Alike, touched_on, zero_alike}
 use Rattle.spk.specs.declared.Question.{Question}
-use Rattle.spk.specs.declared.Memory.{Memory}
 use Rattle.spk.specs.declared.Way.{Way}
 use Rattle.spk.specs.declared.Way.TheVariants as ways
 use Rattle.spk.specs.declared.Answer.{Answer}
 use Rattle.spk.specs.declared.Asked.{Asked}
-use Rattle.spk.specs.declared.Wanted.{Wanted}
-use Rattle.spk.specs.declared.Wanted.TheVariants.{AsItStands, In}
 use Rattle.spk.specs.Questions.{is_same, swapped}
-use Rattle.spk.specs.Choosing.{last_reversed, forward_in, remembered}
+use Rattle.spk.specs.Choosing.{Memory, last_reversed, forward_in, remembered}
 use Rattle.spk.specs.Answers.{answer_of, refused_answer, same_answer, settled, negated_of, difference_of}
 use Rattle.spk.specs.Asking.{Found, leg_from, chained, backward, found_by, answer_to, asked_by, asked}
 use Rattle.spk.specs.Turning.{frame_of, is_refused, turned_by, turned_answer, turned_asked}
@@ -85,10 +81,10 @@ refused_no r = refl
 not_by : {X : Type 0} (a : Answer) (w : Way) → by_state a.way ≡ false → by_state w ≡ true → a.way ≡ w → X
 not_by a w f t e = absurd (true≢false (sym t ∙ ap by_state (sym e) ∙ f))
 
-settled_way : (way : Way) (e : Yielded) (w : Way) → by_state w ≡ true → (settled way e).way ≡ w → way ≡ w
+settled_way : (way : Way) (e : Result Given Refusal) (w : Way) → by_state w ≡ true → (settled way e).way ≡ w → way ≡ w
 unfolding settled
-settled_way way (yielded.Refused r) w t h = not_by (refused_answer r) w (refused_no r) t h
-settled_way way (yielded.Given g) w t h = go (finite_state g.state) h
+settled_way way (Err r) w t h = not_by (refused_answer r) w (refused_no r) t h
+settled_way way (Ok g) w t h = go (finite_state g.state) h
   where
     go : (b : Bool) → (cond b (answer_of way g) (refused_answer NotFinite)).way ≡ w → way ≡ w
     go true e = e
@@ -121,38 +117,38 @@ module _ (limit : ℕ) (ev : Evaluation) (segs : List Segment) (n : ℕ) (m : Me
       let o = open_by w t h in
       settled_way _ _ w t (ap (λ (x : Asked). x.answer.way) (sym (asked_choice limit ev segs n m q (forward_in segs n m q) o.other o.fits o.number)) ∙ h)
 
-  pub named_forward : (i : ℕ) → (asked limit ev segs n m q).answer.way ≡ ways.Forward i → forward_in segs n m q ≡ At i
+  pub named_forward : (i : ℕ) → (asked limit ev segs n m q).answer.way ≡ ways.Forward i → forward_in segs n m q ≡ Some i
   named_forward i h = go (forward_in segs n m q) refl (named (ways.Forward i) refl h)
     where
-      back : (c : Choice) → (backward ev segs n q c).way ≡ ways.Forward i → ⊥
-      back (At j) e = clash (cc)
-      back Nothing e = clash (cc)
+      back : (c : Option ℕ) → (backward ev segs n q c).way ≡ ways.Forward i → ⊥
+      back (Some j) e = clash (cc)
+      back None e = clash (cc)
 
-      go : (c : Choice) → forward_in segs n m q ≡ c → (found_by ev segs n q c).way ≡ ways.Forward i → forward_in segs n m q ≡ At i
-      go (At j) e w = cc
-      go Nothing e w = absurd (back (last_reversed segs n q) w)
+      go : (c : Option ℕ) → forward_in segs n m q ≡ c → (found_by ev segs n q c).way ≡ ways.Forward i → forward_in segs n m q ≡ Some i
+      go (Some j) e w = cc
+      go None e w = absurd (back (last_reversed segs n q) w)
 
-  pub named_reversed : (i : ℕ) → (asked limit ev segs n m q).answer.way ≡ ways.Reversed i → (forward_in segs n m q ≡ Nothing) × (last_reversed segs n q ≡ At i)
+  pub named_reversed : (i : ℕ) → (asked limit ev segs n m q).answer.way ≡ ways.Reversed i → (forward_in segs n m q ≡ None) × (last_reversed segs n q ≡ Some i)
   named_reversed i h = go (forward_in segs n m q) refl (named (ways.Reversed i) refl h)
     where
-      back : (c : Choice) → last_reversed segs n q ≡ c → (backward ev segs n q c).way ≡ ways.Reversed i → last_reversed segs n q ≡ At i
-      back (At j) e w = cc
-      back Nothing e w = clash (cc)
+      back : (c : Option ℕ) → last_reversed segs n q ≡ c → (backward ev segs n q c).way ≡ ways.Reversed i → last_reversed segs n q ≡ Some i
+      back (Some j) e w = cc
+      back None e w = clash (cc)
 
-      go : (c : Choice) → forward_in segs n m q ≡ c → (found_by ev segs n q c).way ≡ ways.Reversed i → (forward_in segs n m q ≡ Nothing) × (last_reversed segs n q ≡ At i)
-      go (At j) e w = clash (cc)
-      go Nothing e w = (e, back (last_reversed segs n q) refl w)
+      go : (c : Option ℕ) → forward_in segs n m q ≡ c → (found_by ev segs n q c).way ≡ ways.Reversed i → (forward_in segs n m q ≡ None) × (last_reversed segs n q ≡ Some i)
+      go (Some j) e w = clash (cc)
+      go None e w = (e, back (last_reversed segs n q) refl w)
 
-  pub named_chained : (asked limit ev segs n m q).answer.way ≡ ways.Chained → (forward_in segs n m q ≡ Nothing) × (last_reversed segs n q ≡ Nothing)
+  pub named_chained : (asked limit ev segs n m q).answer.way ≡ ways.Chained → (forward_in segs n m q ≡ None) × (last_reversed segs n q ≡ None)
   named_chained h = go (forward_in segs n m q) refl (named ways.Chained refl h)
     where
-      back : (c : Choice) → last_reversed segs n q ≡ c → (backward ev segs n q c).way ≡ ways.Chained → last_reversed segs n q ≡ Nothing
-      back (At j) e w = clash (cc)
-      back Nothing e w = e
+      back : (c : Option ℕ) → last_reversed segs n q ≡ c → (backward ev segs n q c).way ≡ ways.Chained → last_reversed segs n q ≡ None
+      back (Some j) e w = clash (cc)
+      back None e w = e
 
-      go : (c : Choice) → forward_in segs n m q ≡ c → (found_by ev segs n q c).way ≡ ways.Chained → (forward_in segs n m q ≡ Nothing) × (last_reversed segs n q ≡ Nothing)
-      go (At j) e w = clash (cc)
-      go Nothing e w = (e, back (last_reversed segs n q) refl w)
+      go : (c : Option ℕ) → forward_in segs n m q ≡ c → (found_by ev segs n q c).way ≡ ways.Chained → (forward_in segs n m q ≡ None) × (last_reversed segs n q ≡ None)
+      go (Some j) e w = clash (cc)
+      go None e w = (e, back (last_reversed segs n q) refl w)
 
 by_way : (to : ℤ) (rot : Matrix) (a : Answer) (w : Way) (turn : Turn) → by_state w ≡ true → (turned_by turn to rot a).way ≡ w → a.way ≡ w
 unfolding turned_by
@@ -162,22 +158,22 @@ by_way to rot a w Back t h = settled_way a.way _ w t h
 by_way to rot a w Never t h = not_by (refused_answer OtherFrame) w (refused_no OtherFrame) t h
 
 -- turning an answer that is none of these leaves its way
-pub turned_way : (wanted : Wanted) (rot : Matrix) (a : Answer) (w : Way) → by_state w ≡ true → (turned_answer wanted rot a).way ≡ w → a.way ≡ w
-turned_way AsItStands rot a w t h = h
-turned_way (In to) rot a w t h =
+pub turned_way : (wanted : Option ℤ) (rot : Matrix) (a : Answer) (w : Way) → by_state w ≡ true → (turned_answer wanted rot a).way ≡ w → a.way ≡ w
+turned_way None rot a w t h = h
+turned_way (Some to) rot a w t h =
     by_test_lem (is_refused a.way) (λ e. ap (λ (x : Answer). x.way) (sym (turned_by_lem to rot a true e)) ∙ h)
     (λ e. by_way to rot a w (turn_of (frame_of a) to) t (ap (λ (x : Answer). x.way) (sym (turned_by_lem to rot a false e)) ∙ h))
 
 -- ---- what holds of the segments that a question evaluates, and implies something, makes that hold of them
 module _ (limit : ℕ) (ev : Evaluation) (segs : List Segment) (n : ℕ) (m : Memory) (q : Question) (P Q : ℕ → Type 0) (f : (i : ℕ) → P i → Q i) where
-  touched_back_lem : (c : Choice) → touched_back ev segs n P q c → touched_back ev segs n Q q c
-  touched_back_lem (At i) t = f i t
-  touched_back_lem Nothing t =
+  touched_back_lem : (c : Option ℕ) → touched_back ev segs n P q c → touched_back ev segs n Q q c
+  touched_back_lem (Some i) t = f i t
+  touched_back_lem None t =
       record { target = λ h. touched_on ev segs P Q f n (leg_from q) chain_limit (t.target h); center = λ a h. touched_on ev segs P Q f n (leg_from (swapped q)) chain_limit (t.center a h) }
 
-  touched_by_lem : (c : Choice) → touched_by ev segs n P q c → touched_by ev segs n Q q c
-  touched_by_lem (At i) t = f i t
-  touched_by_lem Nothing t = touched_back_lem (last_reversed segs n q) t
+  touched_by_lem : (c : Option ℕ) → touched_by ev segs n P q c → touched_by ev segs n Q q c
+  touched_by_lem (Some i) t = f i t
+  touched_by_lem None t = touched_back_lem (last_reversed segs n q) t
 
   touched_asked : Touched limit ev segs n m q P → Touched limit ev segs n m q Q
   touched_asked t o = touched_by_lem (forward_in segs n m q) (t o)
@@ -190,7 +186,7 @@ touched_replied limit ev segs n m P Q f (Single i et) t = λ e. f i (t e)
 
 -- ---- two evaluations
 module _ (limit : ℕ) (ev ev' : Evaluation) (segs : List Segment) (n : ℕ) (m : Memory) (q : Question) where
-  alike_found : (c : Choice) → found_by ev segs n q c ≡ found_by ev' segs n q c → asked_by limit ev segs n m q c ≡ asked_by limit ev' segs n m q c
+  alike_found : (c : Option ℕ) → found_by ev segs n q c ≡ found_by ev' segs n q c → asked_by limit ev segs n m q c ≡ asked_by limit ev' segs n m q c
   unfolding asked_by
   alike_found c e =
       ap
@@ -207,20 +203,20 @@ module _ (limit : ℕ) (ev ev' : Evaluation) (segs : List Segment) (n : ℕ) (m 
       target : to_zero ev segs n (leg_from q) ≡ to_zero ev' segs n (leg_from q)
       target = zero_alike ev ev' segs n (leg_from q) t.target
 
-      go : (e : Yielded) → to_zero ev segs n (leg_from q) ≡ e
+      go : (e : Result Given Refusal) → to_zero ev segs n (leg_from q) ≡ e
           → difference_of (to_zero ev segs n (leg_from q)) (to_zero ev segs n (leg_from (swapped q))) ≡ difference_of (to_zero ev' segs n (leg_from q)) (to_zero ev' segs n (leg_from (swapped q)))
-      go (yielded.Given x) u = ap₂ difference_of target (zero_alike ev ev' segs n (leg_from (swapped q)) (t.center (x, u)))
-      go (yielded.Refused r) u =
-          ap (λ (e : Yielded). difference_of e (to_zero ev segs n (leg_from (swapped q)))) u
-          ∙ ap (λ (e : Yielded). difference_of e (to_zero ev' segs n (leg_from (swapped q)))) (sym u ∙ target)
+      go (Ok x) u = ap₂ difference_of target (zero_alike ev ev' segs n (leg_from (swapped q)) (t.center (x, u)))
+      go (Err r) u =
+          ap (λ (e : Result Given Refusal). difference_of e (to_zero ev segs n (leg_from (swapped q)))) u
+          ∙ ap (λ (e : Result Given Refusal). difference_of e (to_zero ev' segs n (leg_from (swapped q)))) (sym u ∙ target)
 
-  back_alike : (c : Choice) → touched_back ev segs n (Alike ev ev' segs) q c → backward ev segs n q c ≡ backward ev' segs n q c
-  back_alike (At i) t = ap (λ (x : Evaluated). record { way = ways.Reversed i; result = negated_of (yield_of (seg segs i) x) }) (t q.et)
-  back_alike Nothing t = ap (λ (x : Yielded). record { way = ways.Chained; result = x }) (chain_alike t)
+  back_alike : (c : Option ℕ) → touched_back ev segs n (Alike ev ev' segs) q c → backward ev segs n q c ≡ backward ev' segs n q c
+  back_alike (Some i) t = ap (λ (x : Result Valued Refusal). record { way = ways.Reversed i; result = negated_of (yield_of (seg segs i) x) }) (t q.et)
+  back_alike None t = ap (λ (x : Result Given Refusal). record { way = ways.Chained; result = x }) (chain_alike t)
 
-  found_alike : (c : Choice) → touched_by ev segs n (Alike ev ev' segs) q c → found_by ev segs n q c ≡ found_by ev' segs n q c
-  found_alike (At i) t = ap (λ (x : Evaluated). record { way = ways.Forward i; result = yield_of (seg segs i) x }) (t q.et)
-  found_alike Nothing t = back_alike (last_reversed segs n q) t
+  found_alike : (c : Option ℕ) → touched_by ev segs n (Alike ev ev' segs) q c → found_by ev segs n q c ≡ found_by ev' segs n q c
+  found_alike (Some i) t = ap (λ (x : Result Valued Refusal). record { way = ways.Forward i; result = yield_of (seg segs i) x }) (t q.et)
+  found_alike None t = back_alike (last_reversed segs n q) t
 
   -- any question, by the segments that it evaluates
   pub own_asked : Touched limit ev segs n m q (Alike ev ev' segs) → asked limit ev segs n m q ≡ asked limit ev' segs n m q
@@ -235,7 +231,7 @@ module _ (limit : ℕ) (ev ev' : Evaluation) (segs : List Segment) (n : ℕ) (m 
             (λ d. alike_found choice (found_alike choice (t (record { other = e; fits = le; number = d }))))
       ])
     where
-      choice : Choice
+      choice : Option ℕ
       choice = forward_in segs n m q
 
   -- an answer that names a segment forward
@@ -264,7 +260,7 @@ own_alone limit ev ev' segs n i et t =
           elim (dec_lt i n) [
             | yes b ↦
                 alone_some limit ev n i et (seg segs i) le d b
-                ∙ ap (λ (e : Evaluated). settled (ways.Forward i) (yield_of (seg segs i) e)) (t (record { past = record { fits = le; number = d }; below = b }) et)
+                ∙ ap (λ (e : Result Valued Refusal). settled (ways.Forward i) (yield_of (seg segs i) e)) (t (record { past = record { fits = le; number = d }; below = b }) et)
                 ∙ sym (alone_some limit ev' n i et (seg segs i) le d b)
             | no b ↦
                 let far : n ≤ i = omega arith in

@@ -1,5 +1,5 @@
 -- Laws of a segment evaluated alone and of a turned answer, one for each way through the code. Assumes nothing.
-use mathlib.Core.Path.{◌≡◌, ap, ap₂, ◌∙◌}
+use mathlib.Core.Path.{◌≡◌, sym, ap, ap₂, ◌∙◌}
 use lib.IntN.{ℤ}
 use mathlib.Core.Bool.{Bool, true, false, cond}
 use mathlib.Core.List.{[], ◌∷◌}
@@ -12,10 +12,13 @@ use Rattle.frame.specs.declared.Turn.{Turn}
 use Rattle.frame.specs.declared.Turn.TheVariants.{Stands, Forth, Back, Never}
 use Rattle.frame.specs.Framed.{turn_of}
 use Rattle.frame.specs.Given.{turned_given}
+use Rattle.refusal.specs.declared.Refusal.{Refusal}
 use Rattle.refusal.specs.declared.Refusal.TheVariants.{TableUnfit, EpochNan, NoSegment, OtherFrame}
 use Rattle.refusal.specs.Order.{case, first_of}
 use Rattle.segment.specs.declared.Segment.{Segment}
-use Rattle.chain.specs.declared.Yielded.TheVariants as yielded
+use Rattle.std.proofs.Common.{Result, Ok, Err}
+use Rattle.table.specs.Steps.{ready}
+use Rattle.table.proofs.Early.{unless, first_ready}
 use Rattle.chain.specs.Step.{Evaluation, yield_of}
 use Rattle.spk.specs.declared.Way.TheVariants.{Forward}
 use Rattle.spk.specs.declared.Answer.{Answer}
@@ -46,6 +49,27 @@ module _ (limit : ℕ) (ev : Evaluation) (n i : ℕ) (et : Float) (s : Segment) 
   unfolding alone_with tests
   alone_some l d h = ap₂ (λ (a b : Bool). tests a b (leb n i)) (le-ltb limit n l) d ∙ ap (tests false false) (lt-leb n i h)
 
+  -- the same by what the tests before any segment give; then its number
+  later : Bool → Answer
+  later d = first_of (case d NoSegment ∷ []) refused_answer (settled (Forward i) (yield_of s (ev s i et)))
+
+  by_ready : (r : Result (Unit {0}) Refusal) → ready limit n et ≡ r → unless r refused_answer (later (leb n i)) ≡ alone_with limit ev n i et s
+  unfolding alone_with later
+  by_ready r e =
+      sym (ap (λ (x : Result (Unit {0}) Refusal). unless x refused_answer (later (leb n i))) e)
+      ∙ first_ready limit n et (case (leb n i) NoSegment ∷ []) refused_answer (settled (Forward i) (yield_of s (ev s i et)))
+
+  pub unready : (r : Refusal) → ready limit n et ≡ Err r → refused_answer r ≡ alone_with limit ev n i et s
+  unready r e = by_ready (Err r) e
+
+  pub ready_none : (t : Unit {0}) → ready limit n et ≡ Ok t → n ≤ i → refused_answer NoSegment ≡ alone_with limit ev n i et s
+  unfolding later
+  ready_none t e h = sym (ap later (le-leb n i h)) ∙ by_ready (Ok t) e
+
+  pub ready_some : (t : Unit {0}) → ready limit n et ≡ Ok t → i < n → settled (Forward i) (yield_of s (ev s i et)) ≡ alone_with limit ev n i et s
+  unfolding later
+  ready_some t e h = sym (ap later (lt-leb n i h)) ∙ by_ready (Ok t) e
+
 -- a refusal stays, and any other answer is turned
 pub turned_by_lem : (to : ℤ) (rot : Matrix) (a : Answer) (b : Bool) → is_refused a.way ≡ b → turned_to to rot a ≡ cond b a (turned_by (turn_of (frame_of a) to) to rot a)
 unfolding turned_to
@@ -57,11 +81,11 @@ module _ (to : ℤ) (rot : Matrix) (a : Answer) (t : Turn) where
   unfolding turned_by
   by_stands e = ap (λ (x : Turn). turned_by x to rot a) e
 
-  pub by_forth : t ≡ Forth → turned_by t to rot a ≡ settled a.way (yielded.Given (turned_given rot to a.given))
+  pub by_forth : t ≡ Forth → turned_by t to rot a ≡ settled a.way (Ok (turned_given rot to a.given))
   unfolding turned_by
   by_forth e = ap (λ (x : Turn). turned_by x to rot a) e
 
-  pub by_back : t ≡ Back → turned_by t to rot a ≡ settled a.way (yielded.Given (turned_given (transpose_of rot) to a.given))
+  pub by_back : t ≡ Back → turned_by t to rot a ≡ settled a.way (Ok (turned_given (transpose_of rot) to a.given))
   unfolding turned_by
   by_back e = ap (λ (x : Turn). turned_by x to rot a) e
 

@@ -4,8 +4,8 @@ use mathlib.Core.Path.{◌≡◌, refl, ap, ap₂}
 use mathlib.Core.List.{List, [], ◌∷◌}
 use Rattle.refusal.specs.Told.{Numbered}
 use Rattle.refusal.proofs.Told.{told_back, refusal_of_lem, refusal_of}
-use Rattle.spk.specs.declared.Memory.{Memory}
-use Rattle.spk.specs.declared.Memory.TheVariants.{Blank, Kept}
+use Rattle.spk.specs.Choosing.{Memory}
+use Rattle.std.proofs.Common.{Some, None}
 use Rattle.spk.specs.declared.Way.{Way}
 use Rattle.spk.specs.declared.Way.TheVariants.{Same, Forward, Reversed, Chained, Refused}
 use Rattle.spk.specs.declared.Answer.{Answer}
@@ -44,12 +44,12 @@ pub one_answer : (a a' : Answer) → answer_told a ≡ answer_told a' → a ≡ 
 one_answer = told_back answer_told answered answer_of_lem
 
 abbrev memory_of_lem : List ℕ → Memory
-memory_of_lem [] = Blank
-memory_of_lem (i ∷ is) = Kept i
+memory_of_lem [] = None
+memory_of_lem (i ∷ is) = Some i
 
 memory_of : (m : Memory) → memory_of_lem (memory_told m) ≡ m
-memory_of Blank = refl
-memory_of (Kept i) = refl
+memory_of None = refl
+memory_of (Some i) = refl
 
 abbrev with_memory : Answer → Memory → Asked
 with_memory a m = record { answer = a; memory = m }

@@ -9,19 +9,15 @@ use contract.Monad.{Fun}
 use Rattle.promised.specs.Promised.{Determined}
 use Rattle.promised.proofs.Alike.{equal}
 use Rattle.spk.specs.contracts.Question.swapped as m-question-swapped
-use Rattle.spk.specs.contracts.Memory.after as m-memory-after
+use Rattle.spk.specs.contracts.remembered as m-remembered
 use Rattle.spk.specs.contracts.Answer.turned as m-answer-turned
 use Rattle.spk.specs.contracts.forward as m-forward
 use Rattle.spk.specs.contracts.reversed as m-reversed
 use Rattle.spk.specs.contracts.by_chain as m-by-chain
 use Rattle.spk.specs.contracts.with_memory as m-with-memory
-use Rattle.spk.specs.contracts.or_hit as m-or-hit
-use Rattle.spk.specs.contracts.place_kept as m-place-kept
-use Rattle.spk.specs.contracts.recalled as m-recalled
+use Rattle.spk.specs.contracts.Question.hits as m-question-hits
+use Rattle.spk.specs.contracts.recall as m-recall
 use Rattle.spk.specs.contracts.start_of as m-start-of
-use Rattle.spk.specs.contracts.difference as m-difference
-use Rattle.spk.specs.contracts.is_failed as m-is-failed
-use Rattle.spk.specs.contracts.is_early as m-is-early
 use Rattle.spk.specs.contracts.early as m-early
 use Rattle.spk.specs.contracts.turned as m-turned
 use Rattle.spk.specs.contracts.alone_by as m-alone-by
@@ -30,8 +26,8 @@ module _ {M : Type 1} {𝓤 : Ura M} (𝓛 : Logic 𝓤) (mem : Memory → SProp
   pub two_question_swapped : Determined 𝓤 m-question-swapped.ended (m-question-swapped.clauses 𝓛 mem run)
   two_question_swapped κs a g r r' ws ws' = equal 𝓤 refl
 
-  pub two_memory_after : Determined 𝓤 m-memory-after.ended (m-memory-after.clauses 𝓛 mem run)
-  two_memory_after κs a g r r' ws ws' = equal 𝓤 refl
+  pub two_remembered : Determined 𝓤 m-remembered.ended (m-remembered.clauses 𝓛 mem run)
+  two_remembered κs a g r r' ws ws' = equal 𝓤 refl
 
   pub two_answer_turned : Determined 𝓤 m-answer-turned.ended (m-answer-turned.clauses 𝓛 mem run)
   two_answer_turned κs a g r r' ws ws' = equal 𝓤 refl
@@ -48,26 +44,14 @@ module _ {M : Type 1} {𝓤 : Ura M} (𝓛 : Logic 𝓤) (mem : Memory → SProp
   pub two_with_memory : Determined 𝓤 m-with-memory.ended (m-with-memory.clauses 𝓛 mem run)
   two_with_memory κs a g r r' ws ws' = equal 𝓤 refl
 
-  pub two_or_hit : Determined 𝓤 m-or-hit.ended (m-or-hit.clauses 𝓛 mem run)
-  two_or_hit κs a g r r' ws ws' = equal 𝓤 refl
+  pub two_question_hits : Determined 𝓤 m-question-hits.ended (m-question-hits.clauses 𝓛 mem run)
+  two_question_hits κs a g r r' ws ws' = equal 𝓤 refl
 
-  pub two_place_kept : Determined 𝓤 m-place-kept.ended (m-place-kept.clauses 𝓛 mem run)
-  two_place_kept κs a g r r' ws ws' = equal 𝓤 refl
-
-  pub two_recalled : Determined 𝓤 m-recalled.ended (m-recalled.clauses 𝓛 mem run)
-  two_recalled κs a g r r' ws ws' = equal 𝓤 refl
+  pub two_recall : Determined 𝓤 m-recall.ended (m-recall.clauses 𝓛 mem run)
+  two_recall κs a g r r' ws ws' = equal 𝓤 refl
 
   pub two_start_of : Determined 𝓤 m-start-of.ended (m-start-of.clauses 𝓛 mem run)
   two_start_of κs a g r r' ws ws' = equal 𝓤 refl
-
-  pub two_difference : Determined 𝓤 m-difference.ended (m-difference.clauses 𝓛 mem run)
-  two_difference κs a g r r' ws ws' = equal 𝓤 refl
-
-  pub two_is_failed : Determined 𝓤 m-is-failed.ended (m-is-failed.clauses 𝓛 mem run)
-  two_is_failed κs a g r r' ws ws' = equal 𝓤 refl
-
-  pub two_is_early : Determined 𝓤 m-is-early.ended (m-is-early.clauses 𝓛 mem run)
-  two_is_early κs a g r r' ws ws' = equal 𝓤 refl
 
   pub two_early : Determined 𝓤 m-early.ended (m-early.clauses 𝓛 mem run)
   two_early κs a g r r' ws ws' = equal 𝓤 refl

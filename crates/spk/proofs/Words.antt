@@ -25,21 +25,17 @@ use Rattle.refusal.specs.declared.Refusal.{Refusal}
 use Rattle.refusal.specs.declared.Refusal.TheVariants.{TableUnfit, EpochNan, NoSegment}
 use Rattle.refusal.specs.Order.{case, first_of}
 use Rattle.segment.specs.declared.Segment.{Segment}
-use Rattle.segment.specs.declared.Evaluated.{Evaluated}
-use Rattle.table.specs.declared.Choice.TheVariants.{At, Nothing}
+use Rattle.std.proofs.Common.{Option, Some, None, Result, Ok}
+use Rattle.segment.specs.declared.Valued.{Valued}
 use Rattle.table.specs.Segments.{seg}
-use Rattle.chain.specs.declared.Yielded.TheVariants as yielded
 use Rattle.chain.specs.Step.{Evaluation, yield_of}
 use Rattle.chain.proofs.Entered.{or_one, zero_only, zero_where}
 use Rattle.spk.specs.declared.Question.{Question}
-use Rattle.spk.specs.declared.Memory.{Memory}
 use Rattle.spk.specs.declared.Way.TheVariants as ways
 use Rattle.spk.specs.declared.Answer.{Answer}
 use Rattle.spk.specs.declared.Asked.{Asked}
-use Rattle.spk.specs.declared.Wanted.{Wanted}
-use Rattle.spk.specs.declared.Wanted.TheVariants.{AsItStands, In}
 use Rattle.spk.specs.Questions.{is_same, swapped}
-use Rattle.spk.specs.Choosing.{last_reversed, forward_in}
+use Rattle.spk.specs.Choosing.{Memory, last_reversed, forward_in}
 use Rattle.spk.specs.Asking.{leg_from}
 use Rattle.spk.specs.Answers.{refused_answer, same_answer, stretched_of, settled}
 use Rattle.spk.specs.Turning.{frame_of, is_refused, turned_by, turned_to, turned_answer, asked_in}
@@ -69,7 +65,7 @@ module _ (limit : ℕ) (ev : Evaluation) (segs : List Segment) (n : ℕ) (m : Me
   pub word_forward : (i : ℕ) → (answer limit ev segs n m q).way ≡ ways.Forward i → Saying ev segs i q.et (stretched_of (answer limit ev segs n m q))
   word_forward i h = go (gives limit ev segs n m q (ways.Forward i) refl h)
     where
-      is : forward_in segs n m q ≡ At i
+      is : forward_in segs n m q ≡ Some i
       is = named_forward limit ev segs n m q i h
 
       go : {g : Given} → Gives limit ev segs n m q g → Saying ev segs i q.et g.stretched
@@ -80,7 +76,7 @@ module _ (limit : ℕ) (ev : Evaluation) (segs : List Segment) (n : ℕ) (m : Me
   pub word_reversed : (i : ℕ) → (answer limit ev segs n m q).way ≡ ways.Reversed i → Saying ev segs i q.et (stretched_of (answer limit ev segs n m q))
   word_reversed i h = go (gives limit ev segs n m q (ways.Reversed i) refl h)
     where
-      is : (forward_in segs n m q ≡ Nothing) × (last_reversed segs n q ≡ At i)
+      is : (forward_in segs n m q ≡ None) × (last_reversed segs n q ≡ Some i)
       is = named_reversed limit ev segs n m q i h
 
       go : {g : Given} → Gives limit ev segs n m q g → Saying ev segs i q.et g.stretched
@@ -91,7 +87,7 @@ module _ (limit : ℕ) (ev : Evaluation) (segs : List Segment) (n : ℕ) (m : Me
   pub word_chained : (answer limit ev segs n m q).way ≡ ways.Chained → ChainStretches ev segs n q ↔ (stretched_of (answer limit ev segs n m q) ≡ true)
   word_chained h = go (gives limit ev segs n m q ways.Chained refl h)
     where
-      is : (forward_in segs n m q ≡ Nothing) × (last_reversed segs n q ≡ Nothing)
+      is : (forward_in segs n m q ≡ None) × (last_reversed segs n q ≡ None)
       is = named_chained limit ev segs n m q h
 
       both : (a : Arrives ev segs n q) (b : Arrives ev segs n (swapped q)) → ChainStretches ev segs n q ↔ ((a.0.stretched || b.0.stretched) ≡ true)
@@ -114,10 +110,10 @@ module _ (limit : ℕ) (ev : Evaluation) (segs : List Segment) (n : ℕ) (m : Me
   word_refused r h = ap stretched_of (refused_zeros limit ev segs n m q r h) ∙ refused_word_lem r
 
 -- ---- in a frame
-turned_word : (rot : Matrix) (to : ℤ) (a : Answer) → is_refused (settled a.way (yielded.Given (turned_given rot to a.given))).way ≡ false
-    → stretched_of (settled a.way (yielded.Given (turned_given rot to a.given))) ≡ stretched_of a
+turned_word : (rot : Matrix) (to : ℤ) (a : Answer) → is_refused (settled a.way (Ok (turned_given rot to a.given))).way ≡ false
+    → stretched_of (settled a.way (Ok (turned_given rot to a.given))) ≡ stretched_of a
 turned_word rot to a h =
-    let s = settled_gives a.way (yielded.Given (turned_given rot to a.given)) h in
+    let s = settled_gives a.way (Ok (turned_given rot to a.given)) h in
     word_of s.2 ∙ word_of (sym (given_one (turned_given rot to a.given) s.0 s.1))
 
 by_word : (turn : Turn) (to : ℤ) (rot : Matrix) (a : Answer) → is_refused (turned_by turn to rot a).way ≡ false → stretched_of (turned_by turn to rot a) ≡ stretched_of a
@@ -128,16 +124,16 @@ by_word Back to rot a h = turned_word (transpose_of rot) to a h
 by_word Never to rot a h = absurd (true≢false h)
 
 -- an answer that is turned, or stands
-to_word : (wanted : Wanted) (rot : Matrix) (a : Answer) → is_refused (turned_answer wanted rot a).way ≡ false → stretched_of (turned_answer wanted rot a) ≡ stretched_of a
+to_word : (wanted : Option ℤ) (rot : Matrix) (a : Answer) → is_refused (turned_answer wanted rot a).way ≡ false → stretched_of (turned_answer wanted rot a) ≡ stretched_of a
 unfolding turned_to
-to_word AsItStands rot a h = refl
-to_word (In to) rot a h = go (is_refused a.way) h
+to_word None rot a h = refl
+to_word (Some to) rot a h = go (is_refused a.way) h
   where
     go : (b : Bool) → is_refused (cond b a (turned_by (turn_of (frame_of a) to) to rot a)).way ≡ false → stretched_of (cond b a (turned_by (turn_of (frame_of a) to) to rot a)) ≡ stretched_of a
     go true e = refl
     go false e = by_word (turn_of (frame_of a) to) to rot a e
 
-module _ (limit : ℕ) (ev : Evaluation) (segs : List Segment) (n : ℕ) (m : Memory) (q : Question) (wanted : Wanted) (rot : Matrix) where
+module _ (limit : ℕ) (ev : Evaluation) (segs : List Segment) (n : ℕ) (m : Memory) (q : Question) (wanted : Option ℤ) (rot : Matrix) where
   pub word_in : is_refused (asked_in limit ev segs n m q wanted rot).answer.way ≡ false → stretched_of (asked_in limit ev segs n m q wanted rot).answer ≡ stretched_of (answer limit ev segs n m q)
   word_in h = to_word wanted rot (answer limit ev segs n m q) h
 
@@ -150,7 +146,7 @@ module _ (limit : ℕ) (ev : Evaluation) (segs : List Segment) (n i : ℕ) (et :
   unfolding alone_with refused_answer
   word_alone h = go (ltb limit n) (is_nan et) (leb n i) h
     where
-      one : Evaluated → Answer
+      one : Result Valued Refusal → Answer
       one e = settled (ways.Forward i) (yield_of (seg segs i) e)
 
       tests : Bool → Bool → Bool → Answer

@@ -6,8 +6,7 @@ use Rattle.frame.specs.Framed.{j2000}
 use Rattle.frame.specs.Given.{nothing_given, given_of, negated_given, minus_given}
 use Rattle.refusal.specs.declared.Refusal.{Refusal}
 use Rattle.refusal.specs.declared.Refusal.TheVariants.{NotFinite}
-use Rattle.chain.specs.declared.Yielded.{Yielded}
-use Rattle.chain.specs.declared.Yielded.TheVariants as yielded
+use Rattle.std.specs.Prelude.{Result, Ok, Err}
 use Rattle.spk.specs.declared.Way.{Way}
 use Rattle.spk.specs.declared.Way.TheVariants as ways
 use Rattle.spk.specs.declared.Answer.{Answer}
@@ -29,21 +28,21 @@ abbrev pub stretched_of : Answer → Bool
 stretched_of a = a.given.stretched
 
 -- The answer by a way, of what segments gave: the refusal, then 15, then the state.
-unfoldable pub settled : Way → Yielded → Answer
-settled way (yielded.Given g) = cond (finite_state g.state) (answer_of way g) (refused_answer NotFinite)
-settled way (yielded.Refused r) = refused_answer r
+unfoldable pub settled : Way → Result Given Refusal → Answer
+settled way (Ok g) = cond (finite_state g.state) (answer_of way g) (refused_answer NotFinite)
+settled way (Err r) = refused_answer r
 
 -- All six numbers negated.
-unfoldable pub negated_of : Yielded → Yielded
-negated_of (yielded.Given g) = yielded.Given (negated_given g)
-negated_of (yielded.Refused r) = yielded.Refused r
+unfoldable pub negated_of : Result Given Refusal → Result Given Refusal
+negated_of (Ok g) = Ok (negated_given g)
+negated_of (Err r) = Err r
 
 -- A state less another that may be refused.
-abbrev pub less_of : Given → Yielded → Yielded
-less_of a (yielded.Given b) = yielded.Given (minus_given a b)
-less_of a (yielded.Refused r) = yielded.Refused r
+abbrev pub less_of : Given → Result Given Refusal → Result Given Refusal
+less_of a (Ok b) = Ok (minus_given a b)
+less_of a (Err r) = Err r
 
 -- The first less the second. The first's refusal comes first.
-unfoldable pub difference_of : Yielded → Yielded → Yielded
-difference_of (yielded.Given a) e = less_of a e
-difference_of (yielded.Refused r) e = yielded.Refused r
+unfoldable pub difference_of : Result Given Refusal → Result Given Refusal → Result Given Refusal
+difference_of (Ok a) e = less_of a e
+difference_of (Err r) e = Err r

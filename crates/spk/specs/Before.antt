@@ -1,7 +1,7 @@
 -- The answer to a question as it was defined before a state said whether a record was stretched, for one statement alone: that way, state, frame and
 -- memory are those of then (`Before` in `proofs`). It is that of `Answers`, `Asking`, `Turning` and `Alone`, with a state and its frame where those have
 -- the word too. Assumes nothing: these are definitions.
-use Rattle.std.specs.Prelude.{ℕ, cond, List, [], ◌∷◌, ltb, leb, ℤ, Float}
+use Rattle.std.specs.Prelude.{ℕ, cond, List, [], ◌∷◌, ltb, leb, ℤ, Float, Option, Some, None}
 use Rattle.std.specs.Float.Ieee.{is_nan}
 use Rattle.frame.specs.declared.Turn.{Turn}
 use Rattle.frame.specs.declared.Turn.TheVariants.{Stands, Forth, Back, Never}
@@ -12,20 +12,15 @@ use Rattle.refusal.specs.declared.Refusal.{Refusal}
 use Rattle.refusal.specs.declared.Refusal.TheVariants.{TableUnfit, EpochNan, NoSegment, NotFinite, OtherFrame}
 use Rattle.refusal.specs.Order.{case, first_of}
 use Rattle.segment.specs.declared.Segment.{Segment}
-use Rattle.table.specs.declared.Choice.{Choice}
-use Rattle.table.specs.declared.Choice.TheVariants.{At, Nothing}
 use Rattle.table.specs.Segments.{seg}
 use Rattle.chain.specs.Before.{OldEvaluation, OldGiven, old_nothing, old_given_of, OldYielded, Gave, Refusing, old_yield_of, OldLeg, old_to_zero, bare_given}
 use Rattle.spk.specs.declared.Question.{Question}
-use Rattle.spk.specs.declared.Memory.{Memory}
 use Rattle.spk.specs.declared.Way.{Way}
 use Rattle.spk.specs.declared.Way.TheVariants as ways
 use Rattle.spk.specs.declared.Answer.{Answer}
 use Rattle.spk.specs.declared.Asked.{Asked}
-use Rattle.spk.specs.declared.Wanted.{Wanted}
-use Rattle.spk.specs.declared.Wanted.TheVariants.{AsItStands, In}
 use Rattle.spk.specs.Questions.{is_same, swapped}
-use Rattle.spk.specs.Choosing.{last_reversed, forward_in, remembered}
+use Rattle.spk.specs.Choosing.{Memory, last_reversed, forward_in, remembered}
 use Rattle.spk.specs.Turning.{is_refused}
 
 -- An answer: its way, its six numbers and their frame.
@@ -79,17 +74,17 @@ abbrev pub old_given_at : OldEvaluation → List Segment → Question → ℕ �
 old_given_at ev segs q i = old_yield_of (seg segs i) (ev (seg segs i) i q.et)
 
 -- Reversed, else chained.
-abbrev pub old_backward : OldEvaluation → List Segment → ℕ → Question → Choice → OldAnswer
-old_backward ev segs n q (At i) = old_settled (ways.Reversed i) (old_negated (old_given_at ev segs q i))
-old_backward ev segs n q Nothing = old_settled ways.Chained (old_chained ev segs n q)
+abbrev pub old_backward : OldEvaluation → List Segment → ℕ → Question → Option ℕ → OldAnswer
+old_backward ev segs n q (Some i) = old_settled (ways.Reversed i) (old_negated (old_given_at ev segs q i))
+old_backward ev segs n q None = old_settled ways.Chained (old_chained ev segs n q)
 
 -- Forward, else backward.
-abbrev pub old_found : OldEvaluation → List Segment → ℕ → Question → Choice → OldAnswer
-old_found ev segs n q (At i) = old_settled (ways.Forward i) (old_given_at ev segs q i)
-old_found ev segs n q Nothing = old_backward ev segs n q (last_reversed segs n q)
+abbrev pub old_found : OldEvaluation → List Segment → ℕ → Question → Option ℕ → OldAnswer
+old_found ev segs n q (Some i) = old_settled (ways.Forward i) (old_given_at ev segs q i)
+old_found ev segs n q None = old_backward ev segs n q (last_reversed segs n q)
 
 -- The tests in their order, then the choice.
-abbrev pub old_asked_by : ℕ → OldEvaluation → List Segment → ℕ → Memory → Question → Choice → OldAsked
+abbrev pub old_asked_by : ℕ → OldEvaluation → List Segment → ℕ → Memory → Question → Option ℕ → OldAsked
 old_asked_by limit ev segs n m q c =
     cond (is_same q) (record { answer = old_same; memory = m })
     (first_of (case (ltb limit n) TableUnfit ∷ case (is_nan q.et) EpochNan ∷ []) (λ r. record { answer = old_refused r; memory = m })
@@ -107,12 +102,12 @@ old_turned_by Back to rot a = old_settled a.way (Gave (old_given_of (turned_stat
 old_turned_by Never to rot a = old_refused OtherFrame
 
 -- The state's refusal first; without a frame it is given as it stands.
-abbrev pub old_turned : Wanted → Matrix → OldAnswer → OldAnswer
-old_turned AsItStands rot a = a
-old_turned (In to) rot a = cond (is_refused a.way) a (old_turned_by (turn_of a.given.frame to) to rot a)
+abbrev pub old_turned : Option ℤ → Matrix → OldAnswer → OldAnswer
+old_turned None rot a = a
+old_turned (Some to) rot a = cond (is_refused a.way) a (old_turned_by (turn_of a.given.frame to) to rot a)
 
 -- A question in a frame.
-abbrev pub old_asked_in : ℕ → OldEvaluation → List Segment → ℕ → Memory → Question → Wanted → Matrix → OldAsked
+abbrev pub old_asked_in : ℕ → OldEvaluation → List Segment → ℕ → Memory → Question → Option ℤ → Matrix → OldAsked
 old_asked_in limit ev segs n m q wanted rot =
     record { answer = old_turned wanted rot (old_asked limit ev segs n m q).answer; memory = (old_asked limit ev segs n m q).memory }
 

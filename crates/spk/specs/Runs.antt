@@ -1,15 +1,12 @@
 -- Runs of questions, with the memory that goes from each to the next, and with none. Assumes nothing: these are definitions.
-use Rattle.std.specs.Prelude.{ℕ, cond, List, [], ◌∷◌, eqb, Float}
+use Rattle.std.specs.Prelude.{ℕ, cond, List, [], ◌∷◌, eqb, Float, ℤ, Option, None}
 use Rattle.frame.specs.Frame.{Matrix}
 use Rattle.segment.specs.declared.Segment.{Segment}
 use Rattle.chain.specs.Step.{Evaluation}
 use Rattle.spk.specs.declared.Question.{Question}
-use Rattle.spk.specs.declared.Memory.{Memory}
-use Rattle.spk.specs.declared.Memory.TheVariants.{Blank}
 use Rattle.spk.specs.declared.Answer.{Answer}
 use Rattle.spk.specs.declared.Asked.{Asked}
-use Rattle.spk.specs.declared.Wanted.{Wanted}
-use Rattle.spk.specs.Choosing.{last_forward}
+use Rattle.spk.specs.Choosing.{Memory, last_forward}
 use Rattle.spk.specs.Asking.{asked_by, asked}
 use Rattle.spk.specs.Turning.{turned_answer, asked_in}
 use Rattle.spk.specs.Alone.{alone_answer}
@@ -17,12 +14,12 @@ use Rattle.spk.specs.Alone.{alone_answer}
 -- What can be asked: a state, a state in a frame with a matrix, a segment alone by its number at an epoch.
 pub data Asking : Type 0 where
   Plain : Question → Asking
-  InFrame : Question → Wanted → Matrix → Asking
+  InFrame : Question → Option ℤ → Matrix → Asking
   Single : ℕ → Float → Asking
 
 -- A state with no memory: the forward choice is the pair's last covering segment in file order.
 abbrev pub answered : ℕ → Evaluation → List Segment → ℕ → Question → Answer
-answered limit ev segs n q = (asked_by limit ev segs n Blank q (last_forward segs n q)).answer
+answered limit ev segs n q = (asked_by limit ev segs n None q (last_forward segs n q)).answer
 
 -- The answer with no memory, of every kind. It names its segment, where one alone answers.
 abbrev pub fresh : ℕ → Evaluation → List Segment → ℕ → Asking → Answer

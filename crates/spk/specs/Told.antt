@@ -1,10 +1,9 @@
 -- An answer to a question, in the numbers and words of RULES, "Refusals" and "Programs". Assumes nothing: these are definitions.
-use Rattle.std.specs.Prelude.{ℕ, Bool, List, [], ◌∷◌}
+use Rattle.std.specs.Prelude.{ℕ, Bool, List, [], ◌∷◌, Some, None}
 use Rattle.frame.specs.declared.State.{State}
 use Rattle.frame.specs.declared.Framed.{Framed}
 use Rattle.refusal.specs.Told.{Numbered, refused_by, answered}
-use Rattle.spk.specs.declared.Memory.{Memory}
-use Rattle.spk.specs.declared.Memory.TheVariants.{Blank, Kept}
+use Rattle.spk.specs.Choosing.{Memory}
 use Rattle.spk.specs.declared.Way.{Way}
 use Rattle.spk.specs.declared.Way.TheVariants.{Same, Forward, Reversed, Chained, Refused}
 use Rattle.spk.specs.declared.Answer.{Answer}
@@ -47,8 +46,8 @@ pub record ToldAfter : Type 0 where
   pub remembered : List ℕ
 
 abbrev pub memory_told : Memory → List ℕ
-memory_told Blank = []
-memory_told (Kept i) = i ∷ []
+memory_told None = []
+memory_told (Some i) = i ∷ []
 
 abbrev pub asked_told : Asked → ToldAfter
 asked_told a = record { answer = answer_told a.answer; remembered = memory_told a.memory }

@@ -1,15 +1,12 @@
 -- The segments that a question evaluates: what "its own bytes" means of an answer. Assumes nothing: these are definitions.
-use Rattle.std.specs.Prelude.{ℕ, ◌≡◌, false, List}
+use Rattle.std.specs.Prelude.{ℕ, ◌≡◌, false, List, Option, Some, None}
 use Rattle.segment.specs.declared.Segment.{Segment}
-use Rattle.table.specs.declared.Choice.{Choice}
-use Rattle.table.specs.declared.Choice.TheVariants.{At, Nothing}
 use Rattle.chain.specs.Step.{Evaluation}
 use Rattle.chain.specs.Walk.{chain_limit, is_zero}
 use Rattle.chain.specs.Touched.{TouchedOn}
 use Rattle.spk.specs.declared.Question.{Question}
-use Rattle.spk.specs.declared.Memory.{Memory}
 use Rattle.spk.specs.Questions.{swapped}
-use Rattle.spk.specs.Choosing.{last_reversed, forward_in}
+use Rattle.spk.specs.Choosing.{Memory, last_reversed, forward_in}
 use Rattle.spk.specs.Asking.{leg_from}
 use Rattle.spk.specs.When.{Arrives, Open, Evaluates}
 use Rattle.spk.specs.Runs.{Asking, Plain, InFrame, Single}
@@ -22,14 +19,14 @@ module _ (ev : Evaluation) (segs : List Segment) (n : ℕ) (P : ℕ → Type 0) 
     pub center : Arrives ev segs n q → is_zero (leg_from (swapped q)) ≡ false → TouchedOn ev segs n P (leg_from (swapped q)) chain_limit
 
   -- It holds of the reversed choice's; where there is none, of the chain's.
-  abbrev pub touched_back : Choice → Type 0
-  touched_back (At i) = P i
-  touched_back Nothing = TouchedChain
+  abbrev pub touched_back : Option ℕ → Type 0
+  touched_back (Some i) = P i
+  touched_back None = TouchedChain
 
   -- It holds of the forward choice's; where there is none, of those backward.
-  abbrev pub touched_by : Choice → Type 0
-  touched_by (At i) = P i
-  touched_by Nothing = touched_back (last_reversed segs n q)
+  abbrev pub touched_by : Option ℕ → Type 0
+  touched_by (Some i) = P i
+  touched_by None = touched_back (last_reversed segs n q)
 
 -- P holds of the number of each segment that a question evaluates: none where a test before the choice decides.
 abbrev pub Touched : ℕ → Evaluation → List Segment → ℕ → Memory → Question → (ℕ → Type 0) → Type 0

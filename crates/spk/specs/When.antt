@@ -14,22 +14,17 @@ use Rattle.refusal.specs.declared.Refusal.TheVariants.{TableUnfit}
 use Rattle.refusal.specs.Numbers.{number_of}
 use Rattle.segment.specs.declared.Segment.{Segment}
 use Rattle.segment.specs.declared.Valued.{Valued}
-use Rattle.segment.specs.declared.Evaluated.TheVariants as evaluation
-use Rattle.table.specs.declared.Choice.TheVariants.{At, Nothing}
+use Rattle.std.specs.Prelude.{Option, Some, None, Ok, Err}
 use Rattle.table.specs.Segments.{seg}
 use Rattle.chain.specs.declared.Leg.{Leg}
-use Rattle.chain.specs.declared.Yielded.TheVariants as yielded
 use Rattle.chain.specs.Step.{Evaluation, given_by}
 use Rattle.chain.specs.Walk.{chain_limit, is_zero, to_zero}
 use Rattle.chain.specs.When.{Stuck, Failed}
 use Rattle.spk.specs.declared.Question.{Question}
-use Rattle.spk.specs.declared.Memory.{Memory}
 use Rattle.spk.specs.declared.Answer.{Answer}
-use Rattle.spk.specs.declared.Wanted.{Wanted}
-use Rattle.spk.specs.declared.Wanted.TheVariants.{In}
 use Rattle.spk.specs.declared.Way.TheVariants.{Refused}
 use Rattle.spk.specs.Questions.{is_same, swapped}
-use Rattle.spk.specs.Choosing.{last_reversed, forward_in}
+use Rattle.spk.specs.Choosing.{Memory, last_reversed, forward_in}
 use Rattle.spk.specs.Asking.{leg_from, evaluated_at, asked}
 use Rattle.spk.specs.Turning.{frame_of, is_refused, asked_in}
 use Rattle.spk.specs.Alone.{alone_answer}
@@ -42,7 +37,7 @@ is12or13 r = eqb (number_of r) 12 || eqb (number_of r) 13
 module _ (ev : Evaluation) (segs : List Segment) (n : ℕ) where
   -- The walk from a question's target to body 0 ends with a state. Body 0 takes no step.
   abbrev pub Arrives : Question → Type 0
-  Arrives q = (x : Given) × (to_zero ev segs n (leg_from q) ≡ yielded.Given x)
+  Arrives q = (x : Given) × (to_zero ev segs n (leg_from q) ≡ Ok x)
 
   -- So it is with the walk from a question's target, which is not body 0.
   abbrev pub OfWalk : (Leg → Type 0) → Question → Type 0
@@ -80,20 +75,20 @@ module _ (limit : ℕ) (ev : Evaluation) (segs : List Segment) (n : ℕ) (m : Me
 
   -- No segment forward and none reversed: the chain is asked.
   pub record Chaining : Type 0 where
-    pub forward : forward_in segs n m q ≡ Nothing
-    pub reversed : last_reversed segs n q ≡ Nothing
+    pub forward : forward_in segs n m q ≡ None
+    pub reversed : last_reversed segs n q ≡ None
 
   -- Segment i is evaluated for the question, and is refused with r: it is the forward choice; or there is none, and it is the reversed one; or
   -- there is neither, and it ends a walk of the chain.
   pub data Refuses (i : ℕ) (r : Refusal) : Type 0 where
-    forward : forward_in segs n m q ≡ At i → evaluated_at ev segs q i ≡ evaluation.Refused r → Refuses i r
-    reversed : forward_in segs n m q ≡ Nothing → last_reversed segs n q ≡ At i → evaluated_at ev segs q i ≡ evaluation.Refused r → Refuses i r
+    forward : forward_in segs n m q ≡ Some i → evaluated_at ev segs q i ≡ Err r → Refuses i r
+    reversed : forward_in segs n m q ≡ None → last_reversed segs n q ≡ Some i → evaluated_at ev segs q i ≡ Err r → Refuses i r
     chained : Chaining → InChain ev segs n (λ leg. Failed ev segs n leg chain_limit i r) q → Refuses i r
 
   -- The question ends with a state before 15, in the frame of the segments that gave it: the forward choice's; or, with all six negated, the reversed one's; or the target's less the center's.
   pub data Gives (g : Given) : Type 0 where
-    by_forward : (i : ℕ) (x : Valued) → forward_in segs n m q ≡ At i → evaluated_at ev segs q i ≡ evaluation.State x → given_by (seg segs i) x ≡ g → Gives g
-    by_reversed : (i : ℕ) (x : Valued) → forward_in segs n m q ≡ Nothing → last_reversed segs n q ≡ At i → evaluated_at ev segs q i ≡ evaluation.State x → negated_given (given_by (seg segs i) x) ≡ g → Gives g
+    by_forward : (i : ℕ) (x : Valued) → forward_in segs n m q ≡ Some i → evaluated_at ev segs q i ≡ Ok x → given_by (seg segs i) x ≡ g → Gives g
+    by_reversed : (i : ℕ) (x : Valued) → forward_in segs n m q ≡ None → last_reversed segs n q ≡ Some i → evaluated_at ev segs q i ≡ Ok x → negated_given (given_by (seg segs i) x) ≡ g → Gives g
     by_chain : Chaining → (a : Arrives ev segs n q) (b : Arrives ev segs n (swapped q)) → minus_given a.0 b.0 ≡ g → Gives g
 
   -- 10: the epoch is NaN, and no earlier test decides.
@@ -127,14 +122,14 @@ module _ (limit : ℕ) (ev : Evaluation) (segs : List Segment) (n : ℕ) (m : Me
     pub infinite : Infinite given.state
 
   -- ---- a state in a frame
-  module _ (wanted : Wanted) (rot : Matrix) where
+  module _ (wanted : Option ℤ) (rot : Matrix) where
     abbrev pub RefusedInBy : Refusal → Type 0
     RefusedInBy r = (asked_in limit ev segs n m q wanted rot).answer.way ≡ Refused r
 
     -- The question itself is answered, and a frame is wanted.
     pub record Framing : Type 0 where
       pub to : ℤ
-      pub frame : wanted ≡ In to
+      pub frame : wanted ≡ Some to
       pub answered : is_refused answer.way ≡ false
 
     -- 21: the numbers are in several frames, or in one that is neither the frame that is wanted, nor 1 with 17 wanted, nor 17 with 1.
@@ -180,7 +175,7 @@ module _ (limit : ℕ) (ev : Evaluation) (segs : List Segment) (n i : ℕ) (et :
   -- 12, 13 and the segment's 14: it is evaluated to the refusal.
   pub record AloneOwn (r : Refusal) : Type 0 where
     pub past : Evaluates
-    pub given : ev (seg segs i) i et ≡ evaluation.Refused r
+    pub given : ev (seg segs i) i et ≡ Err r
 
   -- 14: the count is over the limit, or the segment doesn't fit the kernel.
   abbrev pub Alone14 : Type 0
@@ -190,5 +185,5 @@ module _ (limit : ℕ) (ev : Evaluation) (segs : List Segment) (n i : ℕ) (et :
   pub record Alone15 : Type 0 where
     pub past : Evaluates
     pub value : Valued
-    pub given : ev (seg segs i) i et ≡ evaluation.State value
+    pub given : ev (seg segs i) i et ≡ Ok value
     pub infinite : Infinite value.state

@@ -2,7 +2,7 @@
 use Rattle.std.specs.Prelude.{ℕ, ◌≡◌, Bool, false, ◌⊎◌, List, Float}
 use Rattle.segment.specs.declared.Segment.{Segment}
 use Rattle.segment.specs.declared.Valued.{Valued}
-use Rattle.segment.specs.declared.Evaluated.TheVariants as evaluation
+use Rattle.std.specs.Prelude.{Ok}
 use Rattle.table.specs.Segments.{seg}
 use Rattle.chain.specs.Step.{Evaluation}
 use Rattle.chain.specs.Walk.{chain_limit, is_zero}
@@ -13,7 +13,7 @@ use Rattle.spk.specs.Asking.{leg_from}
 
 -- Segment i at et gives a value, and this is its word.
 abbrev pub Saying : Evaluation → List Segment → ℕ → Float → Bool → Type 0
-Saying ev segs i et b = (v : Valued) × (ev (seg segs i) i et ≡ evaluation.State v) × (b ≡ v.stretched)
+Saying ev segs i et b = (v : Valued) × (ev (seg segs i) i et ≡ Ok v) × (b ≡ v.stretched)
 
 -- A segment that enters the sum of the walk from a question's target was stretched. Body 0 takes no step.
 abbrev pub WalkStretches : Evaluation → List Segment → ℕ → Question → Type 0

@@ -2,27 +2,33 @@
 
 #![tactic(auto)]
 
-ghost use Rattle.std.specs.Prelude.{◌≡◌, ◌<◌};
+ghost use Rattle.std.specs.Prelude.{◌≡◌, ◌<◌, ◌≤◌, length, Result, Ok};
+ghost use Rattle.std.specs.Fn.{FnReturnsAt};
+ghost use Rattle.frame.specs.declared.Given.{Given};
+ghost use Rattle.refusal.specs.declared.Refusal.{Refusal};
+ghost use Rattle.spk.specs.declared.Question.{Question};
 ghost use Rattle.daf.specs.declared.Family.TheVariants.{Spk};
 ghost use Rattle.segment.specs.Evaluating.{evaluated};
 ghost use Rattle.table.specs.Places.{lent_limit, limit_of};
-ghost use Rattle.table.specs.Choosing.{or_else};
 ghost use Rattle.spk.specs.Questions.{is_same, swapped, is_pair, hits, serves};
-ghost use Rattle.spk.specs.Choosing.{remembered_at};
-ghost use Rattle.spk.specs.Answers.{answer_of, refused_answer, same_answer, settled, negated_of, less_of, difference_of};
+ghost use Rattle.spk.specs.Choosing.{remembered_at, recall};
+ghost use Rattle.spk.specs.Answers.{answer_of, refused_answer, same_answer, settled, negated_of, difference_of};
 ghost use Rattle.spk.specs.Asking.{leg_from};
 ghost use Rattle.spk.specs.Turning.{frame_of, is_refused, turned_by, turned_to, turned_answer, turned_asked};
 ghost use Rattle.spk.specs.Alone.{alone_with};
-ghost use Rattle.spk.specs.Steps.{hit_at, place_kept, recalled_by, is_failed, is_early, early_answer};
+ghost use Rattle.spk.specs.Steps.{early};
 ghost use Rattle.chain.specs.Step.{yield_of};
 ghost use Rattle.chain.specs.Steps.{begin};
 
-use chain::{Leg, Next, Yielded};
+mod asking;
+
+pub use asking::ask;
+use chain::{Leg, Next};
 use daf::Family;
 use frame::{Framed, Given, State, Turn};
 use refusal::Refusal;
-use segment::{Evaluated, Segment};
-use table::{Choice, Table};
+use segment::Segment;
+use table::Table;
 
 // The state of a target about a center at an epoch. It goes from function to function as a struct: a signed number that is passed by
 // itself is read back from its bits at each call.
@@ -33,12 +39,8 @@ pub struct Question {
     pub et: f64,
 }
 
-// The segment that the last forward choice of a marked segment chose.
-#[derive(Clone, Copy)]
-pub enum Memory {
-    Blank,
-    Kept(usize),
-}
+// The segment that the last forward choice of a marked segment chose, by its number; none, so that nothing is remembered.
+pub type Memory = Option<usize>;
 
 // How a question was answered, with the number of the segment where one alone answers.
 #[derive(Clone, Copy)]
@@ -48,13 +50,6 @@ pub enum Way {
     Reversed(u32),
     Chained,
     Refused(Refusal),
-}
-
-// The frame that a state is asked in: none, so that it is given as it stands, or the one of this number.
-#[derive(Clone, Copy)]
-pub enum Wanted {
-    AsItStands,
-    In(i32),
 }
 
 // An answer: its way, and the state with the frame of its numbers and whether a record was stretched: six zeros that no segment gave where it is a refusal.
@@ -111,7 +106,7 @@ impl Question {
     }
 
     // The segment is of this pair and covers the epoch.
-    fn hits(self, s: Segment) -> bool
+    pub fn hits(self, s: Segment) -> bool
         ensures { result ≡ hits self s }
     {
         self.is_pair(s) && table::is_covering(s, self.et)
@@ -125,27 +120,21 @@ impl Question {
     }
 }
 
-impl Memory {
-    // The same, made anew: the bytes between the tag and the number aren't carried along.
-    fn again(self) -> Memory
-        ensures { result ≡ self }
-    {
-        match self {
-            Memory::Blank => Memory::Blank,
-            Memory::Kept(i) => Memory::Kept(i),
-        }
+// The same memory, made anew: the bytes between the tag and the number aren't carried along.
+fn again(memory: Memory) -> Memory
+    ensures { result ≡ memory }
+{
+    match memory {
+        Some(i) => Some(i),
+        None => None,
     }
+}
 
-    // What is remembered after segment i was chosen forward: it, if it is marked, whatever evaluating it results in.
-    pub fn after(self, i: usize, s: Segment) -> Memory
-        ensures { result ≡ remembered_at self i s }
-    {
-        if s.marked {
-            Memory::Kept(i)
-        } else {
-            self.again()
-        }
-    }
+// What is remembered after segment i was chosen forward: it, if it is marked, whatever evaluating it results in.
+pub fn remembered(memory: Memory, i: usize, s: Segment) -> Memory
+    ensures { result ≡ remembered_at memory i s }
+{
+    if s.marked { Some(i) } else { again(memory) }
 }
 
 impl Way {
@@ -189,7 +178,7 @@ impl Answer {
 
     // The answer by a way, of a state that segments gave: 15, then the state.
     fn of(way: Way, g: Given) -> Answer
-        ensures { result ≡ settled way (Yielded.Given g) }
+        ensures { result ≡ settled way (Ok g) }
     {
         if g.state.is_finite() {
             Answer::new(way, g)
@@ -199,12 +188,12 @@ impl Answer {
     }
 
     // The same of what segments gave, or the refusal that came of them.
-    fn settled(way: Way, e: Yielded) -> Answer
+    fn settled(way: Way, e: Result<Given, Refusal>) -> Answer
         ensures { result ≡ settled way e }
     {
         match e {
-            Yielded::Refused(r) => Answer::refused(r),
-            Yielded::Given(g) => Answer::of(way, g),
+            Err(r) => Answer::refused(r),
+            Ok(g) => Answer::of(way, g),
         }
     }
 
@@ -247,24 +236,15 @@ impl Answer {
         self.turned_by(turn, to, rot)
     }
 
-    // The answer in the frame that it is asked in: the matrix `rot`, given row by row, turns J2000 to ECLIPJ2000.
-    pub fn turned(self, wanted: Wanted, rot: [[f64; 3]; 3]) -> Answer
+    // The answer in the frame that it is asked in, the one of this number, or as it stands where there is none: the matrix `rot`, given row by row,
+    // turns J2000 to ECLIPJ2000.
+    pub fn turned(self, wanted: Option<i32>, rot: [[f64; 3]; 3]) -> Answer
         ensures { result ≡ turned_answer wanted rot self }
     {
         match wanted {
-            Wanted::AsItStands => self,
-            Wanted::In(to) => self.turned_to(to, rot),
+            Some(to) => self.turned_to(to, rot),
+            None => self,
         }
-    }
-}
-
-// A state less another that may be refused.
-fn less(a: Given, e: Yielded) -> Yielded
-    ensures { result ≡ less_of a e }
-{
-    match e {
-        Yielded::Refused(r) => Yielded::Refused(r),
-        Yielded::Given(b) => Yielded::Given(a.minus(b)),
     }
 }
 
@@ -274,9 +254,10 @@ fn evaluated_at(kernel: &[u8], i: usize, s: Segment, et: f64) -> Answer
     ensures { result ≡ settled (Way.Forward i) (yield_of s (evaluated Spk kernel.now s i et)) }
 {
     let e = segment::evaluate(kernel, Family::Spk, s, i as u32, et);
+    // no `map` of a Result that is then settled: the answer is made in place
     match e {
-        Evaluated::Refused(r) => Answer::refused(r),
-        Evaluated::State(x) => Answer::of(
+        Err(r) => Answer::refused(r),
+        Ok(x) => Answer::of(
             Way::Forward(i as u32),
             Given::of(x.state, s.frame, x.stretched),
         ),
@@ -302,8 +283,8 @@ pub fn reversed(kernel: &[u8], i: usize, s: Segment, q: Question) -> Answer
 {
     let e = segment::evaluate(kernel, Family::Spk, s, i as u32, q.et);
     match e {
-        Evaluated::Refused(r) => Answer::refused(r),
-        Evaluated::State(x) => {
+        Err(r) => Answer::refused(r),
+        Ok(x) => {
             let given = Given::of(x.state, s.frame, x.stretched);
             Answer::of(Way::Reversed(i as u32), given.negated())
         }
@@ -311,7 +292,7 @@ pub fn reversed(kernel: &[u8], i: usize, s: Segment, q: Question) -> Answer
 }
 
 // The answer by the chain, of what it resulted in.
-pub fn by_chain(e: Yielded) -> Answer
+pub fn by_chain(e: Result<Given, Refusal>) -> Answer
     ensures { result ≡ settled Way.Chained e }
 {
     Answer::settled(Way::Chained, e)
@@ -321,51 +302,21 @@ pub fn by_chain(e: Yielded) -> Answer
 pub fn with_memory(answer: Answer, memory: Memory) -> Asked
     ensures { result ≡ record { answer = answer; memory = memory } }
 {
-    let kept = memory.again();
+    let kept = again(memory);
     Asked {
         answer: answer,
         memory: kept,
     }
 }
 
-// What was kept, else segment i where it is of the pair and covers the epoch.
-pub fn or_hit(kept: Choice, q: Question, s: Segment, i: usize) -> Choice
-    ensures { result ≡ or_else kept (hit_at q s i) }
-{
-    match kept {
-        Choice::At(k) => Choice::At(k),
-        Choice::Nothing => {
-            if q.hits(s) {
-                Choice::At(i)
-            } else {
-                Choice::Nothing
-            }
-        }
-    }
-}
-
 // ---- what a question goes by: the segments that were found are handed in
 
-// The remembered number, or n.
-pub fn place_kept(m: Memory, n: usize) -> usize
-    ensures { result ≡ place_kept m n }
+// The remembered segment, if it is one of the first n and serves the question.
+pub fn recall(table: &[Segment], n: usize, memory: Memory, q: Question) -> Option<usize>
+    requires { n ≤ length table.now }
+    ensures { result ≡ recall table.now n memory q }
 {
-    match m {
-        Memory::Blank => n,
-        Memory::Kept(i) => i,
-    }
-}
-
-// Segment i, which is s, if it is below n and serves from memory.
-pub fn recalled(q: Question, s: Segment, i: usize, n: usize) -> Choice
-    ensures { result ≡ recalled_by q s i n }
-{
-    if i < n {
-        if q.serves(s) {
-            return Choice::At(i);
-        }
-    }
-    Choice::Nothing
+    memory.filter(|&i| i < n && q.serves(table[i]))
 }
 
 // Where the walk of a question's target starts: body 0 takes no step.
@@ -375,68 +326,36 @@ pub fn start_of(q: Question) -> Next
     let leg = q.leg();
     if chain::is_zero(leg) {
         let total = leg.total;
-        return Next::Ended(Yielded::Given(total));
+        return Next::Ended(Ok(total));
     }
     Next::Onward(leg)
 }
 
-// The first less the second. The first's refusal comes first.
-pub fn difference(a: Yielded, b: Yielded) -> Yielded
-    ensures { result ≡ difference_of a b }
+// The chain, by what the walk of a question's target gives: the target's state about body 0 less the center's. The target's refusal comes first.
+pub fn chain_of<W: Fn(&Question) -> Result<Given, Refusal>>(
+    to_zero: W,
+    q: Question,
+) -> Result<Given, Refusal>
+    requires { W.IsAlwaysCallable to_zero }
+    ensures { (z : Question → Result Given Refusal) → ((p : Question) (r : Result Given Refusal) → FnReturnsAt W.Fn to_zero p r → r ≡ z p) → result ≡ difference_of (z q) (z (swapped q)) }
 {
-    match a {
-        Yielded::Refused(r) => Yielded::Refused(r),
-        Yielded::Given(x) => less(x, b),
-    }
+    let a = to_zero(&q)?;
+    let b = to_zero(&q.swapped())?;
+    Ok(a.minus(b))
 }
 
-// It is a refusal.
-pub fn is_failed(e: Yielded) -> bool
-    ensures { result ≡ is_failed e }
-{
-    match e {
-        Yielded::Refused(_) => true,
-        Yielded::Given(_) => false,
-    }
-}
-
-// A test before any segment decides the question.
-pub fn is_early(places: usize, n: usize, q: Question) -> bool
-    ensures { result ≡ is_early (limit_of places) n q }
+// What the tests before any segment answer: target equals center, then the refusals of a count and of an epoch. None where no test decides.
+pub fn early(places: usize, n: usize, q: Question) -> Option<Answer>
+    ensures { result ≡ early (limit_of places) n q }
 {
     if q.is_same() {
-        return true;
+        return Some(Answer::same());
     }
-    if Table::LENT < n {
-        return true;
-    }
-    if places < n {
-        return true;
-    }
-    if q.et != q.et {
-        return true;
-    }
-    false
-}
-
-// The answer that it then has.
-pub fn early(places: usize, n: usize, memory: Memory, q: Question) -> Asked
-    ensures { result ≡ record { answer = early_answer (limit_of places) n q; memory = memory } }
-{
-    if q.is_same() {
-        return with_memory(Answer::same(), memory);
-    }
-    if Table::LENT < n {
-        return with_memory(Answer::refused(Refusal::TableUnfit), memory);
-    }
-    if places < n {
-        return with_memory(Answer::refused(Refusal::TableUnfit), memory);
-    }
-    with_memory(Answer::refused(Refusal::EpochNan), memory)
+    table::ready(places, n, q.et).err().map(Answer::refused)
 }
 
 // An answer in the frame that it is asked in. The memory stays.
-pub fn turned(a: Asked, wanted: Wanted, rot: [[f64; 3]; 3]) -> Asked
+pub fn turned(a: Asked, wanted: Option<i32>, rot: [[f64; 3]; 3]) -> Asked
     ensures { result ≡ turned_asked wanted rot a }
 {
     let answer = a.answer;
@@ -455,14 +374,8 @@ pub fn alone_by(
 ) -> Answer
     ensures { result ≡ alone_with (limit_of places) (evaluated Spk kernel.now) n number et s }
 {
-    if Table::LENT < n {
-        return Answer::refused(Refusal::TableUnfit);
-    }
-    if places < n {
-        return Answer::refused(Refusal::TableUnfit);
-    }
-    if et != et {
-        return Answer::refused(Refusal::EpochNan);
+    if let Err(refusal) = table::ready(places, n, et) {
+        return Answer::refused(refusal);
     }
     if n <= number {
         return Answer::refused(Refusal::NoSegment);

@@ -2,7 +2,12 @@
 
 #![tactic(auto)]
 
-use streams::Input;
+// Writes the statement of a usage file, or its refusal, at once.
+fn print(rt: &HostRuntime, usage: &[u8]) {
+    let mut out = [0u8; statement_text::ROOM];
+    let end = statement_text::put_output(&mut out, usage);
+    streams::write(rt, &out, end);
+}
 
 fn main(rt: HostRuntime) {
     if streams::argument_count(&rt) != 1 {
@@ -12,11 +17,5 @@ fn main(rt: HostRuntime) {
         );
         return;
     }
-    let mut usage = [0u8; streams::ROOM];
-    let input = streams::read_standard(&rt, &mut usage);
-    if let Input::Bytes(n) = input {
-        let mut out = [0u8; statement_text::ROOM];
-        let end = statement_text::put_output(&mut out, &usage[..n]);
-        streams::write(&rt, &out, end);
-    }
+    streams::with_standard(&rt, |usage| print(&rt, usage));
 }

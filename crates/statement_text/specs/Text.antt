@@ -4,7 +4,8 @@ use Rattle.refusal.specs.declared.Refusal.TheVariants.{InputTooLong}
 use Rattle.refusal.specs.Order.{case, first_of}
 use Rattle.lines.specs.Text.{space, newline, decimal_text, refusal_text}
 use Rattle.streams.specs.Input.{input_limit}
-use Rattle.tally.specs.Usage.{Line, records_in, lines_of}
+use Rattle.tally.specs.declared.Line.{Line}
+use Rattle.tally.specs.Usage.{records_in, lines_of}
 use Rattle.tally.specs.Faults.{supplier_limit, faults}
 
 -- A supplier's line: his number, a space, his count.

@@ -4,13 +4,12 @@ use mathlib.Core.List.{List}
 use Prim.Native.Nat.{ℕ, ◌+◌, ◌≤◌}
 use native.Mathlib.Omega.{arith}
 use lib.ListN.{length, take}
+use Rattle.std.specs.Prelude.{Option, Some, IfSome}
 use Rattle.io.specs.Counts.{IsPrefixLen}
-use Rattle.streams.specs.Input.{Within, input_limit}
-use Rattle.streams.specs.declared.Input.{Input}
-use Rattle.streams.specs.declared.Input.TheVariants.{Bytes}
+use Rattle.streams.specs.Input.{input_limit}
 
-pub counted : (i : Input) (n : ℕ) (buf : List ℕ) → i ≡ Bytes n → Within i buf → IsPrefixLen n buf
-counted i n buf e w = subst (λ (j : Input). Within j buf) e w
+pub counted : (i : Option ℕ) (n : ℕ) (buf : List ℕ) → i ≡ Some n → IfSome i (λ m. IsPrefixLen m buf) → IsPrefixLen n buf
+counted i n buf e w = subst (λ (j : Option ℕ). IfSome j (λ m. IsPrefixLen m buf)) e w
 
 -- what was read into a program's buffer has at most one byte more than it takes
 pub counted_few : (n : ℕ) (buf : List ℕ) (l : ℕ) → IsPrefixLen n buf → length buf ≡ l → l ≡ input_limit + 1 → length (take n buf) ≤ input_limit + 1

@@ -3,22 +3,16 @@
 
 #![tactic(auto)]
 
-ghost use Rattle.std.specs.Prelude.{◌≡◌, ◌≤◌, ltb, length, IfOk};
+ghost use Rattle.std.specs.Prelude.{◌≡◌, ◌≤◌, ltb, length, IfSome, IfOk};
 ghost use Rattle.io.specs.Counts.{IsPrefixLen};
-ghost use Rattle.streams.specs.Input.{Within, input_limit};
+ghost use Rattle.streams.specs.Input.{input_limit, TakesInput, GaveOfInput};
 
+use lines::Page;
 use refusal::Refusal;
 use std::env::{Env, FillError};
 use std::fs::File;
 use std::io;
 use std::io::{Print, Read};
-
-// What reading results in: how many bytes, or that it failed, which a line on the error output then says.
-#[derive(Clone, Copy)]
-pub enum Input {
-    Bytes(usize),
-    Unreadable,
-}
 
 // The most bytes of a program's input.
 pub const LIMIT: usize = 65536;
@@ -63,23 +57,23 @@ fn tell(rt: &HostRuntime, what: &[u8], error: io::Error) {
     let _ = rt.stderr().println(error);
 }
 
-// What reading resulted in; where it failed, a line on the error output says so.
-fn input_of(rt: &HostRuntime, what: &[u8], buf: &[u8], read: io::Result<usize>) -> Input
+// How many bytes were read; none where it failed, which a line on the error output says.
+fn input_of(rt: &HostRuntime, what: &[u8], buf: &[u8], read: io::Result<usize>) -> Option<usize>
     requires { IfOk read (λ n. IsPrefixLen n buf.now) }
-    ensures { Within result buf.now }
+    ensures { IfSome result (λ n. IsPrefixLen n buf.now) }
 {
     match read {
-        Ok(n) => Input::Bytes(n),
+        Ok(n) => Some(n),
         Err(error) => {
             tell(rt, what, error);
-            Input::Unreadable
+            None
         }
     }
 }
 
-// Reads standard input.
-pub fn read_standard(rt: &HostRuntime, buf: &mut [u8]) -> Input
-    ensures { Within result buf.new }
+// Reads standard input, and answers how many bytes there were; none where it failed, which a line on the error output says.
+pub fn read_standard(rt: &HostRuntime, buf: &mut [u8]) -> Option<usize>
+    ensures { IfSome result (λ n. IsPrefixLen n buf.new) }
 {
     let read = fill(&mut rt.stdin(), buf);
     input_of(rt, b"standard input", buf, read)
@@ -94,8 +88,8 @@ fn load(rt: &HostRuntime, name: &str, buf: &mut [u8]) -> io::Result<usize>
 }
 
 // Reads the file of this name, which is text in UTF-8.
-fn read_file(rt: &HostRuntime, name: &[u8], buf: &mut [u8]) -> Input
-    ensures { Within result buf.new }
+fn read_file(rt: &HostRuntime, name: &[u8], buf: &mut [u8]) -> Option<usize>
+    ensures { IfSome result (λ n. IsPrefixLen n buf.new) }
 {
     match str::from_utf8(name) {
         Ok(text) => {
@@ -105,7 +99,7 @@ fn read_file(rt: &HostRuntime, name: &[u8], buf: &mut [u8]) -> Input
         Err(_) => {
             complain(rt, name);
             complain(rt, b": a file name that is no text in UTF-8\n");
-            Input::Unreadable
+            None
         }
     }
 }
@@ -132,22 +126,47 @@ pub fn argument(rt: &HostRuntime, i: usize, buf: &mut [u8]) -> io::Result<usize>
     }
 }
 
-// Reads the file that argument i names; `what` stands for it where the argument itself is at fault.
-pub fn read_argument(rt: &HostRuntime, i: usize, what: &[u8], buf: &mut [u8]) -> Input
-    ensures { Within result buf.new }
+// Reads the file that argument i names, as `read_standard` does; `what` stands for it where the argument itself is at fault.
+pub fn read_argument(rt: &HostRuntime, i: usize, what: &[u8], buf: &mut [u8]) -> Option<usize>
+    ensures { IfSome result (λ n. IsPrefixLen n buf.new) }
 {
     let mut name = [0u8; ARGUMENT];
     match argument(rt, i, &mut name) {
         Ok(0) => {
             complain(rt, b"an empty file name\n");
-            Input::Unreadable
+            None
         }
         Ok(n) => read_file(rt, &name[..n], buf),
         Err(error) => {
             tell(rt, what, error);
-            Input::Unreadable
+            None
         }
     }
+}
+
+// Reads standard input and answers what is made of its bytes; where it can't be read nothing is, and a line on the error output says so.
+pub fn with_standard<R, F: FnOnce(&[u8]) -> R>(rt: &HostRuntime, then: F) -> Option<R>
+    requires { TakesInput F.FnOnce then }
+    ensures { IfSome result (λ r. GaveOfInput F.FnOnce then r) }
+{
+    let mut buf = [0u8; ROOM];
+    let n = read_standard(rt, &mut buf)?;
+    Some(then(&buf[..n]))
+}
+
+// The same of the file that argument i names.
+pub fn with_argument<R, F: FnOnce(&[u8]) -> R>(
+    rt: &HostRuntime,
+    i: usize,
+    what: &[u8],
+    then: F,
+) -> Option<R>
+    requires { TakesInput F.FnOnce then }
+    ensures { IfSome result (λ r. GaveOfInput F.FnOnce then r) }
+{
+    let mut buf = [0u8; ROOM];
+    let n = read_argument(rt, i, what, &mut buf)?;
+    Some(then(&buf[..n]))
 }
 
 // Writes the first n bytes of a buffer to standard output; where that fails, a line on the error output says so.
@@ -166,7 +185,12 @@ pub fn write(rt: &HostRuntime, buf: &[u8], n: usize) -> bool
 // Writes the line of a refusal to standard output.
 pub fn write_refusal(rt: &HostRuntime, r: Refusal) -> bool {
     let mut line = [0u8; lines::REFUSAL];
-    let n = lines::put_refusal(&mut line, 0, r);
+    let mut page = Page {
+        out: &mut line,
+        at: 0,
+    };
+    page.put_refusal(r);
+    let n = page.at;
     write(rt, &line, n)
 }
 

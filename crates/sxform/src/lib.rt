@@ -4,6 +4,8 @@
 #![tactic(auto)]
 
 ghost use Rattle.std.specs.Prelude.{◌≡◌};
+ghost use Rattle.bits.specs.F64.{◌⊕◌, at};
+ghost use Rattle.frame.specs.Frame.{table};
 ghost use Rattle.sxform.specs.Sxform.{product_of, sum_of, sxform_of, inverse_of, applied_state};
 ghost use Rattle.sxform.specs.Steps.{row_times, times_state};
 
@@ -13,9 +15,7 @@ use frame::State;
 fn row_times(a: [f64; 3], b: [[f64; 3]; 3]) -> [f64; 3]
     ensures { result ≡ row_times a b }
 {
-    let x = a[0];
-    let y = a[1];
-    let z = a[2];
+    let [x, y, z] = a;
     [
         0.0 + x * b[0][0] + y * b[1][0] + z * b[2][0],
         0.0 + x * b[0][1] + y * b[1][1] + z * b[2][1],
@@ -30,20 +30,21 @@ pub fn matmul3(a: [[f64; 3]; 3], b: [[f64; 3]; 3]) -> [[f64; 3]; 3]
     [row_times(a[0], b), row_times(a[1], b), row_times(a[2], b)]
 }
 
+// The sum of two rows.
+fn row_sum(a: [f64; 3], b: [f64; 3]) -> [f64; 3]
+    ensures { result ≡ table 3 (λ j. at a j ⊕ at b j) }
+{
+    [a[0] + b[0], a[1] + b[1], a[2] + b[2]]
+}
+
 // The sum of two matrices.
 pub fn add3(a: [[f64; 3]; 3], b: [[f64; 3]; 3]) -> [[f64; 3]; 3]
     ensures { result ≡ sum_of a b }
 {
-    let a0 = a[0];
-    let a1 = a[1];
-    let a2 = a[2];
-    let b0 = b[0];
-    let b1 = b[1];
-    let b2 = b[2];
     [
-        [a0[0] + b0[0], a0[1] + b0[1], a0[2] + b0[2]],
-        [a1[0] + b1[0], a1[1] + b1[1], a1[2] + b1[2]],
-        [a2[0] + b2[0], a2[1] + b2[1], a2[2] + b2[2]],
+        row_sum(a[0], b[0]),
+        row_sum(a[1], b[1]),
+        row_sum(a[2], b[2]),
     ]
 }
 
@@ -51,12 +52,8 @@ pub fn add3(a: [[f64; 3]; 3], b: [[f64; 3]; 3]) -> [[f64; 3]; 3]
 pub fn sxform_from_rotation(r: [[f64; 3]; 3], dr: [[f64; 3]; 3]) -> [[f64; 6]; 6]
     ensures { result ≡ sxform_of r dr }
 {
-    let a = r[0];
-    let b = r[1];
-    let c = r[2];
-    let d = dr[0];
-    let e = dr[1];
-    let f = dr[2];
+    let [a, b, c] = r;
+    let [d, e, f] = dr;
     [
         [a[0], a[1], a[2], 0.0, 0.0, 0.0],
         [b[0], b[1], b[2], 0.0, 0.0, 0.0],
@@ -71,12 +68,7 @@ pub fn sxform_from_rotation(r: [[f64; 3]; 3], dr: [[f64; 3]; 3]) -> [[f64; 6]; 6
 pub fn invert_sxform(m: [[f64; 6]; 6]) -> [[f64; 6]; 6]
     ensures { result ≡ inverse_of m }
 {
-    let a = m[0];
-    let b = m[1];
-    let c = m[2];
-    let d = m[3];
-    let e = m[4];
-    let f = m[5];
+    let [a, b, c, d, e, f] = m;
     [
         [a[0], b[0], c[0], 0.0, 0.0, 0.0],
         [a[1], b[1], c[1], 0.0, 0.0, 0.0],

@@ -9,7 +9,7 @@ use Rattle.bits.specs.F64.{whole}
 use Rattle.bits.specs.Same.{same_z}
 use Rattle.segment.specs.declared.Segment.{Segment}
 use Rattle.segment.specs.declared.Kind.TheVariants.{Unsupported}
-use Rattle.table.specs.declared.Choice.TheVariants.{At, Nothing}
+use Rattle.std.proofs.Common.{Some, None}
 use Rattle.table.specs.Segments.{is_covering}
 use Rattle.table.specs.Choosing.{last_in}
 use Rattle.table.specs.Marks.{others, marked_to}
@@ -48,6 +48,6 @@ mark-cases = refl
 -- the last in file order, the ends included; nothing covers a NaN, and a NaN limit covers nothing
 pub last-cases :
     map (λ (et : Float). last_in (λ s. same_z s.center (pos 3) && is_covering s et) eight 6) (whole 3 ∷ whole 10 ∷ whole 12 ∷ whole 20 ∷ whole 27 ∷ whole 40 ∷ nan ∷ [])
-    ≡ At 0 ∷ At 1 ∷ At 1 ∷ At 2 ∷ Nothing ∷ Nothing ∷ Nothing ∷ []
+    ≡ Some 0 ∷ Some 1 ∷ Some 1 ∷ Some 2 ∷ None ∷ None ∷ None ∷ []
 unfolding last_in le of_int
 last-cases = refl

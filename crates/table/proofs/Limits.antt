@@ -4,15 +4,10 @@ use mathlib.Core.Bool.{Bool, true, false, cond}
 use Prim.Native.Nat.{ℕ, zero, ◌≤◌, ◌<◌, zero-le}
 use native.Mathlib.Omega.{arith}
 use lib.Dec.{ltb}
+use Rattle.std.specs.Prelude.{min}
 use borrow.Author.Tests.{lt-ltb, le-ltb, ltb-true, ltb-false}
 use Rattle.table.specs.Places.{lent_limit, limit_of}
 use Rattle.table.specs.Steps.{counted}
-use Prim.Native.Nat.{ℕ, zero, ◌≤◌, ◌<◌, zero-le}
-use mathlib.Core.Path.{◌≡◌, refl, sym, ap}
-use mathlib.Core.Bool.{Bool, true, false, cond}
-use native.Mathlib.Omega.{arith}
-use borrow.Author.Tests.{lt-ltb, le-ltb, ltb-true, ltb-false}
-use lib.Dec.{ltb}
 use Rattle.daf.specs.Summaries.{places}
 
 pub limit_most : (places : ℕ) → (limit_of places ≤ places) × (limit_of places ≤ lent_limit)
@@ -22,11 +17,12 @@ limit_most places = go (ltb lent_limit places) refl
     go true e = (omega (arith, ltb-true lent_limit places e), omega arith)
     go false e = (omega arith, ltb-false lent_limit places e)
 
-pub limit_yes : (places : ℕ) → lent_limit < places → lent_limit ≡ limit_of places
-limit_yes places h = sym (ap (λ (b : Bool). cond b lent_limit places) (lt-ltb lent_limit places h))
-
-pub limit_no : (places : ℕ) → places ≤ lent_limit → places ≡ limit_of places
-limit_no places h = sym (ap (λ (b : Bool). cond b lent_limit places) (le-ltb lent_limit places h))
+pub limit_min : (places : ℕ) → min places lent_limit ≡ limit_of places
+limit_min places = go (ltb lent_limit places) refl
+  where
+    go : (b : Bool) → ltb lent_limit places ≡ b → min places lent_limit ≡ cond b lent_limit places
+    go true e = omega (arith, ltb-true lent_limit places e)
+    go false e = omega (arith, ltb-false lent_limit places e)
 
 module _ (places n : ℕ) where
   pub limit_over : lent_limit < n → limit_of places < n

@@ -1,10 +1,10 @@
--- Laws of the marks: of `others`, the inner loop of `marked_all`; of `marked_to`, its outer loop; and that what an opening computes
--- are the marks that the memory theorem asks for. Assumes nothing.
+-- Laws of the marks: of `marked_to`, the loop of `mark_all`; and that what an opening computes are the marks that the memory theorem
+-- asks for. Assumes nothing.
 use mathlib.Core.Path.{◌≡◌, refl, sym, ap, ap₂, ◌∙◌}
 use mathlib.Core.Logic.{⊎_elim}
-use mathlib.Core.Bool.{Bool, true, false, not, ◌&&◌, ◌||◌}
+use mathlib.Core.Bool.{Bool, not, ◌&&◌, ◌||◌}
 use mathlib.Core.List.{List}
-use Prim.Native.Nat.{ℕ, zero, suc, ◌+◌, ◌≤◌, ◌<◌, zero-le}
+use Prim.Native.Nat.{ℕ, zero, suc, ◌+◌, ◌≤◌, ◌<◌}
 use native.Mathlib.Nat.{not-suc-le-zero, le_of_suc-le-suc, eq-or-lt_of_le}
 use native.Mathlib.Numerals.{add-one}
 use native.Mathlib.Omega.{arith}
@@ -15,28 +15,7 @@ use lib.ListN.{length, set, length-set}
 use lib.Seq.{get_or-set_same, get_or-set_other, set_out}
 use Rattle.segment.specs.declared.Segment.{Segment}
 use Rattle.table.specs.Segments.{overlaps, with_mark, seg, blank}
-use Rattle.table.specs.Marks.{rivals, others, mark, marked_to, MarkedRight}
-use Rattle.table.specs.Steps.{left_unless}
-
--- ---- `others`, with what was met so far
-or_assoc : (a b c : Bool) → (a || (b || c)) ≡ ((a || b) || c)
-or_assoc true b c = refl
-or_assoc false b c = refl
-
-or_none : (a : Bool) → (a || false) ≡ a
-or_none true = refl
-or_none false = refl
-
-module _ (segs : List Segment) (a : Segment) (i : ℕ) where
-  -- nothing is left: what was met is what there is
-  pub others_none : (met : Bool) (j : ℕ) → j ≡ 0 → (met || others segs a i j) ≡ met
-  unfolding others
-  others_none met j e = ap (λ (x : ℕ). met || others segs a i x) e ∙ or_none met
-
-  -- the last that is left joins what was met
-  pub others_more : (met : Bool) (j k : ℕ) → j ≡ suc k → (met || others segs a i j) ≡ ((met || rivals a i (seg segs k) k) || others segs a i k)
-  unfolding others
-  others_more met j k e = ap (λ (x : ℕ). met || others segs a i x) e ∙ or_assoc met (rivals a i (seg segs k) k) (others segs a i k)
+use Rattle.table.specs.Marks.{others, mark, marked_to, MarkedRight}
 
 -- ---- `marked_to`
 pub marked_none : (segs : List Segment) (n : ℕ) → segs ≡ marked_to segs n 0
@@ -97,7 +76,7 @@ module _ (segs : List Segment) (n : ℕ) where
   others_kept a a' i k m e (suc j) =
       ap₂ (λ (o r : Bool). (not (eqb j i) && o) || r) (ap₂ overlaps e (at_any k j).1) (others_kept a a' i k m e j)
 
-  -- a turn of the outer loop marks one more
+  -- a turn of the loop marks one more
   pub marked_more : (i : ℕ) (met : Bool) → others (marked_to segs n i) (seg (marked_to segs n i) i) i n ≡ met
       → set (marked_to segs n i) i (with_mark (seg (marked_to segs n i) i) (not met)) ≡ marked_to segs n (i + 1)
   unfolding marked_to
@@ -113,19 +92,3 @@ module _ (segs : List Segment) (n : ℕ) where
   marks_right le i h =
       let e = at_marked n i le h in
       ap (λ (s : Segment). s.marked) e ∙ ap not (sym (others_kept (seg segs i) (seg (marked_to segs n n) i) i n (mark segs n i) e n))
-
--- ---- the scan for a rival, which ends at the first
-pub left_or : (b : Bool) (g : ℕ → Bool) (k : ℕ) → (b || g k) ≡ (b || g (left_unless b k))
-left_or true g k = refl
-left_or false g k = refl
-
-pub unless_most : (b : Bool) (k : ℕ) → left_unless b k ≤ k
-unless_most true k = zero-le
-unless_most false k = omega arith
-
-module _ (segs : List Segment) (a : Segment) (i : ℕ) where
-  pub rival_turn : (b : Bool) (k : ℕ) → (b || others segs a i (suc k)) ≡ ((b || rivals a i (seg segs k) k) || others segs a i (left_unless (b || rivals a i (seg segs k) k) k))
-  rival_turn b k = others_more segs a i b (suc k) k refl ∙ left_or (b || rivals a i (seg segs k) k) (others segs a i) k
-
-  pub rival_end : (b : Bool) → (b || others segs a i zero) ≡ b
-  rival_end b = others_none segs a i b zero refl

@@ -6,3 +6,4 @@ pub mod Marks
 pub mod Naming
 pub mod Steps
 pub mod Told
+pub mod Visits

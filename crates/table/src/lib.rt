@@ -2,13 +2,16 @@
 
 #![tactic(auto)]
 
-ghost use Rattle.std.specs.Prelude.{◌≡◌, not, ◌||◌};
+ghost use Rattle.std.specs.Prelude.{◌≡◌, not};
 ghost use Rattle.table.specs.Segments.{empty_segment, is_covering, meets, same_pair, overlaps, with_mark};
 ghost use Rattle.table.specs.Places.{limit_of, empty_table};
-ghost use Rattle.table.specs.Steps.{counted, left_of, place_in, left_unless, name_with};
-ghost use Rattle.table.specs.Choosing.{or_else};
+ghost use Rattle.table.specs.Steps.{counted, ready, name_with};
 ghost use Rattle.table.specs.Marks.{rivals};
 
+mod scans;
+
+use refusal::Refusal;
+pub use scans::{any_rival, first_where};
 use segment::Segment;
 
 // The segments of an opened kernel, in file order: those below the count.
@@ -34,13 +37,6 @@ impl Table {
             count: 0,
         }
     }
-}
-
-// The segment that was chosen, by its number, or that there is none.
-#[derive(Clone, Copy)]
-pub enum Choice {
-    At(usize),
-    Nothing,
 }
 
 // The segment covers this epoch.
@@ -100,70 +96,28 @@ pub fn no_segment() -> Segment
 pub fn limit_of(places: usize) -> usize
     ensures { result ≡ limit_of places }
 {
-    if Table::LENT < places {
-        return Table::LENT;
-    }
-    places
+    places.min(Table::LENT)
 }
 
 // How many segments there are: none where the count is over the limit.
 pub fn counted(places: usize, n: usize) -> usize
     ensures { result ≡ counted (limit_of places) n }
 {
-    if Table::LENT < n {
-        return 0;
-    }
-    if places < n {
-        return 0;
-    }
-    n
+    if limit_of(places) < n { 0 } else { n }
 }
 
-// What is left to look at once there is a choice: nothing; else the first n.
-pub fn left_of(c: Choice, n: usize) -> usize
-    ensures { result ≡ left_of c n }
+// The tests of a question before any segment: a count over the limit, an epoch that is NaN.
+pub fn ready(places: usize, n: usize, et: f64) -> Result<(), Refusal>
+    ensures { result ≡ ready (limit_of places) n et }
 {
-    match c {
-        Choice::At(_) => 0,
-        Choice::Nothing => n,
+    let limit = limit_of(places);
+    if limit < n {
+        return Err(Refusal::TableUnfit);
     }
-}
-
-// The number of a choice, or n.
-pub fn place_in(c: Choice, n: usize) -> usize
-    ensures { result ≡ place_in c n }
-{
-    match c {
-        Choice::At(i) => i,
-        Choice::Nothing => n,
+    if et.is_nan() {
+        return Err(Refusal::EpochNan);
     }
-}
-
-// The first of two choices that there is.
-pub fn or_else(a: Choice, b: Choice) -> Choice
-    ensures { result ≡ or_else a b }
-{
-    match a {
-        Choice::At(i) => Choice::At(i),
-        Choice::Nothing => b,
-    }
-}
-
-// What was met, or that segment k, which is b, is another than segment i, which is a, and overlaps it.
-pub fn or_rival(met: bool, a: Segment, i: usize, b: Segment, k: usize) -> bool
-    ensures { result ≡ (met || rivals a i b k) }
-{
-    met | rivals(a, i, b, k)
-}
-
-// What is left to look at: nothing once one was met.
-pub fn left_unless(met: bool, n: usize) -> usize
-    ensures { result ≡ left_unless met n }
-{
-    if met {
-        return 0;
-    }
-    n
+    Ok(())
 }
 
 // The segment with its mark, by whether it has a rival.

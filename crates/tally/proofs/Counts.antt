@@ -62,20 +62,20 @@ count_least file (suc n) s = turn (eqb (supplier_at file n) s) (count_least file
     turn true h = omega arith
     turn false h = omega arith
 
--- the counts of a list, where x has one more and no other has changed
-module _ (x : ℕ) (f g : ℕ → ℕ) (one : g x ≡ suc (f x)) (other : (s : ℕ) → (x ≡ s → ⊥) → g s ≡ f s) where
+-- what is said of each number of a list, where it has changed of x alone
+module _ {A : Type 0} (x : ℕ) (f g : ℕ → A) (other : (s : ℕ) → (x ≡ s → ⊥) → g s ≡ f s) where
   pub same_counts : (l : List ℕ) → Apart x l → map g l ≡ map f l
   same_counts [] a = refl
   same_counts (t ∷ ts) a = ap₂ ◌∷◌ (other t (λ e. a.0 (sym e))) (same_counts ts a.1)
 
-  pub counts_there : (l : List ℕ) (p : ℕ) → Rises l → p < length l → get_or l p 0 ≡ x → map g l ≡ set (map f l) p (suc (f x))
+  pub counts_there : (l : List ℕ) (p : ℕ) → Rises l → p < length l → get_or l p 0 ≡ x → map g l ≡ set (map f l) p (g x)
   counts_there [] p r b e = none_below p b
-  counts_there (t ∷ ts) zero r b e = ap₂ ◌∷◌ (ap g e ∙ one) (same_counts ts (above_apart x ts (subst (λ (y : ℕ). Above y ts) e r.0)))
+  counts_there (t ∷ ts) zero r b e = ap₂ ◌∷◌ (ap g e) (same_counts ts (above_apart x ts (subst (λ (y : ℕ). Above y ts) e r.0)))
   counts_there (t ∷ ts) (suc p) r b e =
       ap₂ ◌∷◌ (other t (λ q. omega (arith, above_at t ts p r.0 (omega arith)))) (counts_there ts p r.1 (omega arith) e)
 
-  pub counts_new : (l : List ℕ) (p : ℕ) → p ≤ length l → Apart x l → f x ≡ 0
-      → map g (take p l ++ (x ∷ drop p l)) ≡ take p (map f l) ++ (1 ∷ drop p (map f l))
-  counts_new l zero b a z = ap₂ ◌∷◌ (one ∙ ap suc z) (same_counts l a)
-  counts_new [] (suc p) b a z = none_below p b
-  counts_new (t ∷ ts) (suc p) b a z = ap₂ ◌∷◌ (other t (λ e. a.0 (sym e))) (counts_new ts p (omega arith) a.1 z)
+  pub counts_new : (l : List ℕ) (p : ℕ) → p ≤ length l → Apart x l
+      → map g (take p l ++ (x ∷ drop p l)) ≡ take p (map f l) ++ (g x ∷ drop p (map f l))
+  counts_new l zero b a = ap (λ (r : List A). g x ∷ r) (same_counts l a)
+  counts_new [] (suc p) b a = none_below p b
+  counts_new (t ∷ ts) (suc p) b a = ap₂ ◌∷◌ (other t (λ e. a.0 (sym e))) (counts_new ts p (omega arith) a.1)

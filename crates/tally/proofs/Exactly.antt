@@ -11,12 +11,14 @@ use lib.Dec.{ltb, eqb}
 use lib.ListN.{length}
 use borrow.Author.Tests.{ltb-true, ltb-false, eqb-true, eqb-false}
 use Rattle.bits.proofs.Tests.{by_test_lem}
+use Rattle.std.specs.Prelude.{Result, Err}
+use Rattle.refusal.specs.declared.Refusal.{Refusal}
 use Rattle.refusal.specs.declared.Refusal.TheVariants.{BadRecord, TooManySuppliers}
 use Rattle.records.specs.Records.{is_marked}
 use Rattle.tally.specs.Usage.{usage_size, usage_mark, records_in, supplier_at, placed, suppliers_of}
 use Rattle.tally.specs.Faults.{supplier_limit}
 use Rattle.tally.specs.declared.Statement.{Statement}
-use Rattle.tally.specs.Statement.{refused_statement, outcome_number, statement_of}
+use Rattle.tally.specs.Statement.{outcome_number, statement_of}
 use Rattle.tally.specs.When.{Sound, BadAt, CrowdedAt, Faultless}
 use Rattle.tally.proofs.Order.{by_order, placed_first, placed_same, placed_later, suppliers_next}
 use Rattle.tally.proofs.Ways.{answer, stands, from_start, broken_here, crowded_here, sound_here, cut_there, whole_there}
@@ -76,14 +78,14 @@ module _ (file : List ℕ) where
       ∙ ap (stands file) (add-one i)
 
   -- where each is given
-  pub bad_where : (i : ℕ) → BadAt file i → statement_of file ≡ refused_statement BadRecord
+  pub bad_where : (i : ℕ) → BadAt file i → statement_of file ≡ Err BadRecord
   bad_where i a =
       ⊎_elim
       (λ u. passed i (omega (arith, u.0)) a.sound ∙ broken_here file i u.0 u.1)
       (λ c. passed i (omega (arith, c.0)) a.sound ∙ cut_there file i (omega (arith, c.0)) c.1)
       a.bad
 
-  pub crowded_where : (i : ℕ) → CrowdedAt file i → statement_of file ≡ refused_statement TooManySuppliers
+  pub crowded_where : (i : ℕ) → CrowdedAt file i → statement_of file ≡ Err TooManySuppliers
   crowded_where i a =
       passed i (omega (arith, a.within)) a.sound
       ∙ crowded_here file i a.within (length (suppliers_of file (suc i))) (with_one i) a.marked a.crowds
@@ -118,10 +120,10 @@ module _ (file : List ℕ) where
 
   -- the number that each gives
   abbrev pub number : ℕ
-  number = outcome_number (statement_of file).outcome
+  number = outcome_number (statement_of file)
 
-  gives : {s : Statement} → statement_of file ≡ s → number ≡ outcome_number s.outcome
-  gives e = ap (λ (s : Statement). outcome_number s.outcome) e
+  gives : {s : Result Statement Refusal} → statement_of file ≡ s → number ≡ outcome_number s
+  gives e = ap outcome_number e
 
   -- no other number is given, and each only in its case
   pub by_number : {X : Type 0} → (((i : ℕ) × BadAt file i) → number ≡ 19 → X) → (((i : ℕ) × CrowdedAt file i) → number ≡ 20 → X) → (Faultless file → number ≡ 0 → X) → X

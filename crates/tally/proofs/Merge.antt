@@ -11,11 +11,13 @@ use lib.ListN.{length, get_or, length-append, length-map, get_or-append}
 use lib.Seq.{get_or-append-add}
 use borrow.Author.Tests.{lt-ltb, le-ltb, ltb-true, ltb-false, eqb-true}
 use Rattle.bits.proofs.Tests.{by_test_lem}
+use Rattle.std.specs.Prelude.{Ok, Err}
 use Rattle.refusal.specs.declared.Refusal.TheVariants.{TooManySuppliers}
 use Rattle.records.specs.Records.{is_marked}
-use Rattle.tally.specs.Usage.{Line, usage_size, usage_mark, records_in, supplier_at, suppliers_of, count_of, line_of, lines_of}
+use Rattle.tally.specs.declared.Line.{Line}
+use Rattle.tally.specs.Usage.{usage_size, usage_mark, records_in, supplier_at, suppliers_of, count_of, line_of, lines_of}
 use Rattle.tally.specs.Faults.{supplier_limit}
-use Rattle.tally.specs.Statement.{stated, refused_statement, statement_of}
+use Rattle.tally.specs.Statement.{stated, statement_of}
 use Rattle.tally.specs.Merging.{count_in, both, merged}
 use Rattle.tally.specs.When.{BadAt, CrowdedAt, Faultless}
 use Rattle.tally.proofs.Alike.{Alike, same_supplier, same_mark}
@@ -114,17 +116,17 @@ faultless_fit file f = record { marks = f.sound.marks; whole = f.whole }
 
 -- it is refused with 20 where it names too many suppliers, and for nothing else
 pub fit_statement : (file : List ℕ) → Fit file
-    → statement_of file ≡ cond (ltb supplier_limit (length (suppliers_of file (records_in file)))) (refused_statement TooManySuppliers) (answer file)
+    → statement_of file ≡ cond (ltb supplier_limit (length (suppliers_of file (records_in file)))) (Err TooManySuppliers) (answer file)
 fit_statement file f = ⊎_elim (λ b. absurd (fits b.0 b.1)) (λ o. ⊎_elim crowds fine o) (verdict file)
   where
     fits : (i : ℕ) → BadAt file i → ⊥
     fits i b = ⊎_elim (λ u. true≢false (sym (f.marks i u.0) ∙ u.1)) (λ c. c.1 f.whole) b.bad
 
     chosen : (b : Bool) → ltb supplier_limit (length (suppliers_of file (records_in file))) ≡ b
-        → cond b (refused_statement TooManySuppliers) (answer file) ≡ cond (ltb supplier_limit (length (suppliers_of file (records_in file)))) (refused_statement TooManySuppliers) (answer file)
-    chosen b q = ap (λ (t : Bool). cond t (refused_statement TooManySuppliers) (answer file)) (sym q)
+        → cond b (Err TooManySuppliers) (answer file) ≡ cond (ltb supplier_limit (length (suppliers_of file (records_in file)))) (Err TooManySuppliers) (answer file)
+    chosen b q = ap (λ (t : Bool). cond t (Err TooManySuppliers) (answer file)) (sym q)
 
-    crowds : ((i : ℕ) × CrowdedAt file i) → statement_of file ≡ cond (ltb supplier_limit (length (suppliers_of file (records_in file)))) (refused_statement TooManySuppliers) (answer file)
+    crowds : ((i : ℕ) × CrowdedAt file i) → statement_of file ≡ cond (ltb supplier_limit (length (suppliers_of file (records_in file)))) (Err TooManySuppliers) (answer file)
     crowds c =
         let i = c.0 in
         let end : suc i + (records_in file - suc i) ≡ records_in file = omega (arith, c.1.within) in
@@ -132,16 +134,16 @@ fit_statement file f = ⊎_elim (λ b. absurd (fits b.0 b.1)) (λ o. ⊎_elim cr
         ∙ chosen true (lt-ltb supplier_limit (length (suppliers_of file (records_in file)))
         (omega (arith, c.1.crowds, suppliers_grow file (suc i) (records_in file - suc i), ap (λ (k : ℕ). length (suppliers_of file k)) end)))
 
-    fine : Faultless file → statement_of file ≡ cond (ltb supplier_limit (length (suppliers_of file (records_in file)))) (refused_statement TooManySuppliers) (answer file)
+    fine : Faultless file → statement_of file ≡ cond (ltb supplier_limit (length (suppliers_of file (records_in file)))) (Err TooManySuppliers) (answer file)
     fine g = stated_where file g ∙ chosen false (le-ltb supplier_limit (length (suppliers_of file (records_in file))) g.sound.few)
 
 -- the same by its lines
 pub fit_lines : (file : List ℕ) → Fit file
     → let lines = lines_of file (records_in file) in
-    statement_of file ≡ cond (ltb supplier_limit (length lines)) (refused_statement TooManySuppliers) (stated lines (records_in file))
+    statement_of file ≡ cond (ltb supplier_limit (length lines)) (Err TooManySuppliers) (Ok (stated lines (records_in file)))
 fit_lines file h =
     fit_statement file h
-    ∙ ap (λ (k : ℕ). cond (ltb supplier_limit k) (refused_statement TooManySuppliers) (answer file)) (sym (length-map (suppliers_of file (records_in file)) (line_of file (records_in file))))
+    ∙ ap (λ (k : ℕ). cond (ltb supplier_limit k) (Err TooManySuppliers) (answer file)) (sym (length-map (suppliers_of file (records_in file)) (line_of file (records_in file))))
 
 module _ (a b : List ℕ) (fa : Fit a) (fb : Fit b) where
   pub fit_both : Fit (a ++ b)
@@ -182,8 +184,8 @@ module _ (a b : List ℕ) (fa : Fit a) (fb : Fit b) where
 
   -- the merge law
   pub merge_law : let lines = merged (lines_of a (records_in a)) (lines_of b (records_in b)) in
-      statement_of (a ++ b) ≡ cond (ltb supplier_limit (length lines)) (refused_statement TooManySuppliers) (stated lines (records_in a + records_in b))
+      statement_of (a ++ b) ≡ cond (ltb supplier_limit (length lines)) (Err TooManySuppliers) (Ok (stated lines (records_in a + records_in b)))
   merge_law =
       fit_lines (a ++ b) fit_both
-      ∙ ap (λ (n : ℕ). cond (ltb supplier_limit (length (lines_of (a ++ b) n))) (refused_statement TooManySuppliers) (stated (lines_of (a ++ b) n) n)) (records_both a b fa.whole)
-      ∙ ap (λ (l : List Line). cond (ltb supplier_limit (length l)) (refused_statement TooManySuppliers) (stated l (records_in a + records_in b))) lines_both
+      ∙ ap (λ (n : ℕ). cond (ltb supplier_limit (length (lines_of (a ++ b) n))) (Err TooManySuppliers) (Ok (stated (lines_of (a ++ b) n) n))) (records_both a b fa.whole)
+      ∙ ap (λ (l : List Line). cond (ltb supplier_limit (length l)) (Err TooManySuppliers) (Ok (stated l (records_in a + records_in b)))) lines_both

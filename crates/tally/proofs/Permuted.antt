@@ -10,11 +10,13 @@ use lib.ListN.{length, get_or, drop, length-append}
 use lib.Seq.{get_or-take, get_or-drop}
 use borrow.Author.Tests.{ltb-true, ltb-false}
 use Rattle.bits.proofs.Tests.{by_test_lem, and_both, and_first, and_second}
+use Rattle.std.specs.Prelude.{Ok, Err}
 use Rattle.refusal.specs.declared.Refusal.TheVariants.{TooManySuppliers}
 use Rattle.records.specs.Records.{begins, is_marked}
-use Rattle.tally.specs.Usage.{Line, usage_size, usage_mark, records_in, supplier_at, count_of, lines_of}
+use Rattle.tally.specs.declared.Line.{Line}
+use Rattle.tally.specs.Usage.{usage_size, usage_mark, records_in, supplier_at, count_of, lines_of}
 use Rattle.tally.specs.Faults.{supplier_limit}
-use Rattle.tally.specs.Statement.{stated, refused_statement, statement_of}
+use Rattle.tally.specs.Statement.{stated, statement_of}
 use Rattle.tally.specs.Merging.{record_at, records_of, supplier_in, naming}
 use Rattle.tally.proofs.Alike.{Alike, same_supplier, same_mark}
 use Rattle.tally.proofs.Same.{same_lines}
@@ -159,5 +161,5 @@ module _ (f g : List ℕ) (fit : Fit f) (whole : length g % usage_size ≡ 0) (p
   pub permuted : statement_of f ≡ statement_of g
   permuted =
       fit_lines f fit
-      ∙ ap₂ (λ (l : List Line) (n : ℕ). cond (ltb supplier_limit (length l)) (refused_statement TooManySuppliers) (stated l n)) lines_too same_many
+      ∙ ap₂ (λ (l : List Line) (n : ℕ). cond (ltb supplier_limit (length l)) (Err TooManySuppliers) (Ok (stated l n))) lines_too same_many
       ∙ sym (fit_lines g fit_too)

@@ -9,7 +9,8 @@ use lib.Dec.{ltb, eqb}
 use lib.ListN.{length, get_or}
 use borrow.Author.Tests.{lt-ltb, ltb-true, ltb-false, eqb-true, eqb-false, eq-eqb, ne_eqb}
 use Rattle.bits.proofs.Tests.{by_test_lem, or_left, or_right}
-use Rattle.tally.specs.Usage.{Line, supplier_at, placed, suppliers_of, count_of, line_of, lines_of}
+use Rattle.tally.specs.declared.Line.{Line}
+use Rattle.tally.specs.Usage.{supplier_at, placed, suppliers_of, count_of, line_of, lines_of}
 use Rattle.tally.specs.Merging.{sum_of}
 use Rattle.tally.proofs.Order.{none_below, Above, Rises, above_less, by_order, placed_first, placed_same, placed_later, suppliers_next, suppliers_rise}
 use Rattle.tally.proofs.Counts.{Apart, above_apart, counted_one, counted_other, never_named}

@@ -8,26 +8,28 @@ use native.Mathlib.Omega.{arith}
 use lib.Dec.{ltb}
 use lib.ListN.{length, replicate, length-map}
 use borrow.Author.Tests.{lt-ltb, le-ltb, eq-eqb, ne_eqb}
+use Rattle.std.specs.Prelude.{Result, Ok, Err}
+use Rattle.refusal.specs.declared.Refusal.{Refusal}
 use Rattle.refusal.specs.declared.Refusal.TheVariants.{BadRecord, TooManySuppliers}
 use Rattle.refusal.specs.Order.{first_of}
 use Rattle.records.specs.Records.{is_marked}
 use Rattle.tally.specs.declared.Statement.{Statement}
-use Rattle.tally.specs.declared.Outcome.TheVariants.{Stated}
-use Rattle.tally.specs.Usage.{Line, usage_size, usage_mark, records_in, suppliers_of, count_of, line_of, lines_of}
+use Rattle.tally.specs.declared.Line.{Line}
+use Rattle.tally.specs.Usage.{usage_size, usage_mark, records_in, suppliers_of, count_of, line_of, lines_of}
 use Rattle.tally.specs.Faults.{supplier_limit, unmarked, crowded, cut_short, faults_from}
-use Rattle.tally.specs.Statement.{padded, stated, refused_statement, statement_of}
+use Rattle.tally.specs.Statement.{no_line, padded, stated, statement_of}
 use Rattle.tally.specs.Steps.{Tallied}
 
 -- the statement where there is no fault
-abbrev pub answer : List ℕ → Statement
-answer file = stated (lines_of file (records_in file)) (records_in file)
+abbrev pub answer : List ℕ → Result Statement Refusal
+answer file = Ok (stated (lines_of file (records_in file)) (records_in file))
 
 -- what the faults from record i on leave of it, n whole records being left
-unfoldable pub stands_for : List ℕ → ℕ → ℕ → Statement
-stands_for file i n = first_of (faults_from file i n) refused_statement (answer file)
+unfoldable pub stands_for : List ℕ → ℕ → ℕ → Result Statement Refusal
+stands_for file i n = first_of (faults_from file i n) Err (answer file)
 
 -- what all of them from record i on leave
-abbrev pub stands : List ℕ → ℕ → Statement
+abbrev pub stands : List ℕ → ℕ → Result Statement Refusal
 stands file i = stands_for file i (records_in file - i)
 
 pub from_start : (file : List ℕ) → statement_of file ≡ stands file 0
@@ -43,21 +45,21 @@ module _ (file : List ℕ) (i : ℕ) (below : i < records_in file) where
   one_left = omega arith
 
   turn : (b c : Bool) → unmarked file i ≡ b → crowded file i ≡ c
-      → stands file i ≡ cond b (refused_statement BadRecord) (cond c (refused_statement TooManySuppliers) (stands file (i + 1)))
+      → stands file i ≡ cond b (Err BadRecord) (cond c (Err TooManySuppliers) (stands file (i + 1)))
   unfolding stands_for faults_from
   turn b c p q =
       ap (stands_for file i) one_left
-      ∙ ap₂ (λ (s t : Bool). cond s (refused_statement BadRecord) (cond t (refused_statement TooManySuppliers) (stands_for file (suc i) (records_in file - (i + 1))))) p q
-      ∙ ap (λ (j : ℕ). cond b (refused_statement BadRecord) (cond c (refused_statement TooManySuppliers) (stands_for file j (records_in file - (i + 1))))) (sym (add-one i))
+      ∙ ap₂ (λ (s t : Bool). cond s (Err BadRecord) (cond t (Err TooManySuppliers) (stands_for file (suc i) (records_in file - (i + 1))))) p q
+      ∙ ap (λ (j : ℕ). cond b (Err BadRecord) (cond c (Err TooManySuppliers) (stands_for file j (records_in file - (i + 1))))) (sym (add-one i))
 
-  pub broken_here : is_marked usage_size usage_mark file i ≡ false → stands file i ≡ refused_statement BadRecord
+  pub broken_here : is_marked usage_size usage_mark file i ≡ false → stands file i ≡ Err BadRecord
   broken_here m = turn true (crowded file i) (ap not m) refl
 
   -- as many suppliers as there are with this record
   with_this : (k : ℕ) → k ≡ length (suppliers_of file (i + 1)) → crowded file i ≡ ltb supplier_limit k
   with_this k e = ap (ltb supplier_limit) (ap (λ (j : ℕ). length (suppliers_of file j)) (sym (add-one i)) ∙ sym e)
 
-  pub crowded_here : (k : ℕ) → k ≡ length (suppliers_of file (i + 1)) → is_marked usage_size usage_mark file i ≡ true → supplier_limit < k → stands file i ≡ refused_statement TooManySuppliers
+  pub crowded_here : (k : ℕ) → k ≡ length (suppliers_of file (i + 1)) → is_marked usage_size usage_mark file i ≡ true → supplier_limit < k → stands file i ≡ Err TooManySuppliers
   crowded_here k e m h = turn false true (ap not m) (with_this k e ∙ lt-ltb supplier_limit k h)
 
   pub sound_here : (k : ℕ) → k ≡ length (suppliers_of file (i + 1)) → is_marked usage_size usage_mark file i ≡ true → k ≤ supplier_limit → stands file i ≡ stands file (i + 1)
@@ -68,11 +70,11 @@ module _ (file : List ℕ) (i : ℕ) (past : records_in file ≤ i) where
   none_left : records_in file - i ≡ 0
   none_left = omega arith
 
-  last : (b : Bool) → cut_short file ≡ b → stands file i ≡ cond b (refused_statement BadRecord) (answer file)
+  last : (b : Bool) → cut_short file ≡ b → stands file i ≡ cond b (Err BadRecord) (answer file)
   unfolding stands_for faults_from
-  last b p = ap (stands_for file i) none_left ∙ ap (λ (s : Bool). cond s (refused_statement BadRecord) (answer file)) p
+  last b p = ap (stands_for file i) none_left ∙ ap (λ (s : Bool). cond s (Err BadRecord) (answer file)) p
 
-  pub cut_there : (length file % usage_size ≡ 0 → ⊥) → stands file i ≡ refused_statement BadRecord
+  pub cut_there : (length file % usage_size ≡ 0 → ⊥) → stands file i ≡ Err BadRecord
   cut_there h = last true (ap not (ne_eqb (length file % usage_size) 0 h))
 
   pub whole_there : length file % usage_size ≡ 0 → stands file i ≡ answer file
@@ -88,22 +90,13 @@ counts_of_lines file n [] = refl
 counts_of_lines file n (s ∷ ss) = ap (λ (t : List ℕ). count_of file n s ∷ t) (counts_of_lines file n ss)
 
 -- nothing is tallied at the start
-pub tallied_none : (file : List ℕ) → Tallied file 0 (replicate supplier_limit 0) (replicate supplier_limit 0) 0
+pub tallied_none : (file : List ℕ) → Tallied file 0 (replicate supplier_limit no_line) 0
 unfolding suppliers_of
-tallied_none file = record { few = omega arith; many = refl; named = refl; counted = refl }
+tallied_none file = record { few = omega arith; many = refl; held = refl }
 
 -- what is tallied at the end is the statement
-pub tallied_all : (file : List ℕ) (suppliers counts : List ℕ) (known : ℕ) → Tallied file (records_in file) suppliers counts known
-    → record { outcome = Stated; suppliers = suppliers; counts = counts; known = known; total = records_in file } ≡ answer file
-tallied_all file suppliers counts known h = made named counted (h.many ∙ sym (length-map (suppliers_of file (records_in file)) (line_of file (records_in file))))
-  where
-    named : suppliers ≡ padded (map (λ (x : Line). x.supplier) (lines_of file (records_in file)))
-    named = h.named ∙ ap padded (sym (suppliers_of_lines file (records_in file) (suppliers_of file (records_in file))))
-
-    counted : counts ≡ padded (map (λ (x : Line). x.count) (lines_of file (records_in file)))
-    counted = h.counted ∙ ap padded (sym (counts_of_lines file (records_in file) (suppliers_of file (records_in file))))
-
-    made : {s t : List ℕ} {k : ℕ} → suppliers ≡ s → counts ≡ t → known ≡ k
-        → ◌≡◌ {A = Statement} (record { outcome = Stated; suppliers = suppliers; counts = counts; known = known; total = records_in file })
-        (record { outcome = Stated; suppliers = s; counts = t; known = k; total = records_in file })
-    made p q r = cc
+pub tallied_all : (file : List ℕ) (lines : List Line) (known : ℕ) → Tallied file (records_in file) lines known
+    → ◌≡◌ {A = Result Statement Refusal} (Ok (record { lines = lines; known = known; total = records_in file })) (answer file)
+tallied_all file lines known h =
+    ap₂ (λ (l : List Line) (k : ℕ). Ok (record { lines = l; known = k; total = records_in file })) h.held
+    (h.many ∙ sym (length-map (suppliers_of file (records_in file)) (line_of file (records_in file))))

@@ -1,7 +1,8 @@
 -- Lines of two statements put together, and a file as the list of its records.
 use Rattle.std.specs.Prelude.{ℕ, zero, suc, ◌+◌, ◌*◌, cond, List, [], ◌∷◌, ◌++◌, map, eqb, take, drop}
 use Rattle.bits.specs.Bytes.{le32}
-use Rattle.tally.specs.Usage.{usage_size, placed, Line}
+use Rattle.tally.specs.declared.Line.{Line}
+use Rattle.tally.specs.Usage.{usage_size, placed}
 
 -- All counts added up.
 abbrev pub sum_of : List Line → ℕ

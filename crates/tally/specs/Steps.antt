@@ -1,26 +1,30 @@
 -- What the small functions of the code do.
-use Rattle.std.specs.Prelude.{ℕ, suc, ◌≤◌, ◌<◌, ◌≡◌, List, ◌∷◌, ◌++◌, map, length, get_or, take, drop}
-use Rattle.tally.specs.Usage.{suppliers_of, count_of}
+use Rattle.std.specs.Prelude.{ℕ, suc, ◌≤◌, ◌<◌, ◌≡◌, List, ◌∷◌, ◌++◌, length, get_or, take, drop}
+use Rattle.tally.specs.declared.Line.{Line}
+use Rattle.tally.specs.Usage.{suppliers_of, lines_of}
 use Rattle.tally.specs.Faults.{supplier_limit}
-use Rattle.tally.specs.Statement.{padded}
+use Rattle.tally.specs.Statement.{no_line, padded}
 
--- The first n numbers rise.
-abbrev pub Rising : List ℕ → ℕ → Type 0
-Rising l n = (i j : ℕ) → i < j → j < n → get_or l i 0 < get_or l j 0
+-- The supplier of line k.
+abbrev pub supplier_on : List Line → ℕ → ℕ
+supplier_on lines k = (get_or lines k no_line).supplier
 
--- Of the first n numbers those before place p are below x, and those from there on aren't.
-pub record Place (l : List ℕ) (n x p : ℕ) : Type 0 where
-  pub within : p ≤ n
-  pub below : (k : ℕ) → k < p → get_or l k 0 < x
-  pub beyond : (k : ℕ) → p ≤ k → k < n → x ≤ get_or l k 0
+-- The suppliers of the lines rise.
+abbrev pub Rising : List Line → Type 0
+Rising lines = (i j : ℕ) → i < j → j < length lines → supplier_on lines i < supplier_on lines j
 
--- v put in at place p of the first n numbers: those from there on have moved up by one.
-abbrev pub put_in : List ℕ → ℕ → ℕ → ℕ → List ℕ
-put_in l n p v = take p l ++ (v ∷ (drop p (take n l) ++ drop (suc n) l))
+-- The suppliers of the lines before place p are below x, and those from there on aren't.
+pub record Place (lines : List Line) (x p : ℕ) : Type 0 where
+  pub within : p ≤ length lines
+  pub below : (k : ℕ) → k < p → supplier_on lines k < x
+  pub beyond : (k : ℕ) → p ≤ k → k < length lines → x ≤ supplier_on lines k
 
--- The two lists hold the suppliers of the first n records and their counts.
-pub record Tallied (file : List ℕ) (n : ℕ) (suppliers counts : List ℕ) (known : ℕ) : Type 0 where
+-- A line put in at place p of the first n: those from there on have moved up by one.
+abbrev pub put_in : List Line → ℕ → ℕ → Line → List Line
+put_in lines n p line = take p lines ++ (line ∷ (drop p (take n lines) ++ drop (suc n) lines))
+
+-- The lines are those of the first n records.
+pub record Tallied (file : List ℕ) (n : ℕ) (lines : List Line) (known : ℕ) : Type 0 where
   pub few : known ≤ supplier_limit
   pub many : known ≡ length (suppliers_of file n)
-  pub named : suppliers ≡ padded (suppliers_of file n)
-  pub counted : counts ≡ padded (map (count_of file n) (suppliers_of file n))
+  pub held : lines ≡ padded (lines_of file n)

@@ -2,6 +2,7 @@
 use Rattle.std.specs.Prelude.{ℕ, zero, suc, ◌+◌, ◌*◌, ◌/◌, cond, List, [], ◌∷◌, map, ltb, eqb, length}
 use Rattle.bits.specs.Bytes.{le32}
 use Rattle.records.specs.declared.Mark.{Mark}
+use Rattle.tally.specs.declared.Line.{Line}
 
 -- A usage record has eight bytes and begins with the mark A5 5A.
 abbrev pub usage_size : ℕ
@@ -32,11 +33,6 @@ suppliers_of file (suc n) = placed (supplier_at file n) (suppliers_of file n)
 unfoldable pub count_of : List ℕ → ℕ → ℕ → ℕ
 count_of file zero s = 0
 count_of file (suc n) s = cond (eqb (supplier_at file n) s) (suc (count_of file n s)) (count_of file n s)
-
--- A line of a statement: a supplier and its count.
-pub record Line : Type 0 where
-  pub supplier : ℕ
-  pub count : ℕ
 
 -- The line of supplier s over the first n records.
 abbrev pub line_of : List ℕ → ℕ → ℕ → Line

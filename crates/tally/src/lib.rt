@@ -5,7 +5,7 @@
 ghost use Rattle.std.specs.Prelude.{◌≡◌, ◌+◌, ◌*◌, ◌≤◌, ◌<◌, length};
 ghost use Rattle.tally.specs.Usage.{usage_size, supplier_at, suppliers_of};
 ghost use Rattle.tally.specs.Faults.{supplier_limit};
-ghost use Rattle.tally.specs.Statement.{refused_statement, statement_of};
+ghost use Rattle.tally.specs.Statement.{statement_of};
 ghost use Rattle.tally.specs.Steps.{Rising, Place, put_in, Tallied};
 
 use records::Mark;
@@ -22,22 +22,19 @@ const MARK: Mark = Mark {
     second: 0x5a,
 };
 
-// Whether a file was stated, or the refusal.
+// A line of a statement: a supplier, and how many records name it.
 #[derive(Clone, Copy)]
-pub enum Outcome {
-    Stated,
-    Refused(Refusal),
+pub struct Line {
+    pub supplier: u64,
+    pub count: u64,
 }
 
 // The statement of a usage file.
 #[derive(Clone, Copy)]
 pub struct Statement {
-    pub outcome: Outcome,
-    // the suppliers in order of number, then zeros
-    pub suppliers: [u64; SUPPLIERS],
-    // how many records name each of them, then zeros
-    pub counts: [u64; SUPPLIERS],
-    // how many suppliers there are
+    // the lines in order of supplier, then lines of zeros
+    pub lines: [Line; SUPPLIERS],
+    // how many lines there are
     pub known: usize,
     // how many records there are
     pub total: u64,
@@ -51,104 +48,70 @@ fn supplier_at(file: &[u8], i: usize) -> u64
     bits::le_u32(file, SIZE * i + 4) as u64
 }
 
-// How many of the known suppliers stand before x.
-fn place_of(suppliers: &[u64; SUPPLIERS], known: usize, x: u64) -> usize
-    requires { (known ≤ supplier_limit) × Rising suppliers.now known }
-    ensures { Place suppliers.now known x result }
+// How many of the lines stand before supplier x.
+fn place_of(lines: &[Line], x: u64) -> usize
+    requires { Rising lines.now }
+    ensures { Place lines.now x result }
 {
-    let mut low: usize = 0;
-    let mut high = known;
-    while low < high {
-        let middle = (low + high) / 2;
-        if suppliers[middle] < x {
-            low = middle + 1;
-        } else {
-            high = middle;
-        }
-    }
-    low
+    lines.partition_point(|line| line.supplier < x)
 }
 
-// Puts v in at a place of the first n numbers.
-fn put_in(list: &mut [u64; SUPPLIERS], n: usize, at: usize, v: u64)
-    requires { (at ≤ n) × (n < supplier_limit) × (length list.old ≡ supplier_limit) }
-    ensures { list.new ≡ put_in list.old n at v }
+// Puts a line in at a place of the first n.
+fn put_in(lines: &mut [Line; SUPPLIERS], n: usize, at: usize, line: Line)
+    requires { (at ≤ n) × (n < supplier_limit) × (length lines.old ≡ supplier_limit) }
+    ensures { lines.new ≡ put_in lines.old n at line }
 {
-    let mut i = n;
-    while at < i {
-        list[i] = list[i - 1];
-        i -= 1;
-    }
-    list[at] = v;
+    lines.copy_within(at..n, at + 1);
+    lines[at] = line;
 }
 
-// Counts record i, and answers how many suppliers there are then. Where these are too many nothing more is said of the two lists.
-fn count_record(
-    file: &[u8],
-    i: usize,
-    suppliers: &mut [u64; SUPPLIERS],
-    counts: &mut [u64; SUPPLIERS],
-    known: usize,
-) -> usize
-    requires { (usage_size * i + usage_size ≤ length file.now) × Tallied file.now i suppliers.old counts.old known }
+// Counts record i, and answers how many suppliers there are then. Where these are too many nothing more is said of the lines.
+fn count_record(file: &[u8], i: usize, lines: &mut [Line; SUPPLIERS], known: usize) -> usize
+    requires { (usage_size * i + usage_size ≤ length file.now) × Tallied file.now i lines.old known }
     ensures many { result ≡ length (suppliers_of file.now (i + 1)) }
-    ensures tallied { result ≤ supplier_limit → Tallied file.now (i + 1) suppliers.new counts.new result }
+    ensures tallied { result ≤ supplier_limit → Tallied file.now (i + 1) lines.new result }
 {
     let x = supplier_at(file, i);
-    let at = place_of(suppliers, known, x);
-    if at < known {
-        if suppliers[at] == x {
-            counts[at] += 1;
-            return known;
-        }
+    let at = place_of(&lines[..known], x);
+    if at < known && lines[at].supplier == x {
+        lines[at].count += 1;
+        return known;
     }
     if known < SUPPLIERS {
-        put_in(suppliers, known, at, x);
-        put_in(counts, known, at, 1);
+        let line = Line {
+            supplier: x,
+            count: 1,
+        };
+        put_in(lines, known, at, line);
     }
     known + 1
 }
 
-// A refused file's statement.
-fn refused(refusal: Refusal) -> Statement
-    ensures { result ≡ refused_statement refusal }
-{
-    Statement {
-        outcome: Outcome::Refused(refusal),
-        suppliers: [0; SUPPLIERS],
-        counts: [0; SUPPLIERS],
-        known: 0,
-        total: 0,
-    }
-}
-
-// The statement of a usage file: 19 or 20 for its first fault in file order, or its suppliers with their counts and the total.
-pub fn add_up(file: &[u8]) -> Statement
+// The statement of a usage file, its lines and the total; or 19 or 20 for its first fault in file order.
+pub fn add_up(file: &[u8]) -> Result<Statement, Refusal>
     ensures { result ≡ statement_of file.now }
 {
     let n = file.len() / SIZE;
-    let mut suppliers = [0u64; SUPPLIERS];
-    let mut counts = [0u64; SUPPLIERS];
-    let mut known: usize = 0;
-    let mut i: usize = 0;
-    while i < n {
+    let mut lines = [Line {
+        supplier: 0,
+        count: 0,
+    }; SUPPLIERS];
+    let mut known = 0;
+    for i in 0..n {
         if !records::is_marked(file, SIZE, MARK, i) {
-            return refused(Refusal::BadRecord);
+            return Err(Refusal::BadRecord);
         }
-        known = count_record(file, i, &mut suppliers, &mut counts, known);
+        known = count_record(file, i, &mut lines, known);
         if SUPPLIERS < known {
-            return refused(Refusal::TooManySuppliers);
+            return Err(Refusal::TooManySuppliers);
         }
-        i += 1;
     }
     if file.len() % SIZE != 0 {
-        return refused(Refusal::BadRecord);
+        return Err(Refusal::BadRecord);
     }
-    Statement {
-        outcome: Outcome::Stated,
-        suppliers: suppliers,
-        counts: counts,
-        known: known,
+    Ok(Statement {
+        lines,
+        known,
         total: n as u64,
-    }
+    })
 }

@@ -1,7 +1,7 @@
 -- The worked numbers of the rules (RULES, "Worked numbers"), in one table under one statement, closed by computation. A row is a list of numbers: a place,
 -- a count, bytes, or the bit patterns of doubles.
 -- Assumes nothing.
-use Rattle.std.specs.Prelude.{ℕ, suc, zero, ◌≡◌, refl, cond, List, [], ◌∷◌, ◌++◌, map, pos, negsuc, Float, replicate}
+use Rattle.std.specs.Prelude.{ℕ, suc, zero, ◌≡◌, refl, cond, List, [], ◌∷◌, ◌++◌, map, pos, negsuc, Float, replicate, Result, Ok, Err}
 use Rattle.std.specs.Float.{binary64}
 use Rattle.std.specs.Float.Ieee.{of_int, to_bits, of_bits, to_unsigned, add, sub, mul, div, eq}
 use Rattle.bits.specs.F64.{at}
@@ -17,15 +17,14 @@ use Rattle.daf.specs.Summaries.{any_over25, total}
 use Rattle.daf.specs.Opening.{opening}
 use Rattle.daf.specs.Names.{kept, ascii, name_of}
 use Rattle.daf.specs.declared.Family.TheVariants.{Spk}
-use Rattle.daf.specs.declared.Opened.{Opened}
-use Rattle.daf.specs.declared.Opened.TheVariants.{Accepted, Refused}
-use Rattle.cheby.specs.declared.Cheby.{Cheby}
-use Rattle.cheby.specs.declared.Cheby.TheVariants.{Value, NoRadius}
+use Rattle.std.specs.Prelude.{Option, Some, None}
 use Rattle.cheby.specs.Cheby.{T, T', series_at, slope_at, value_of, rate_of, record2, record_for, reach_for}
 use Rattle.interp.specs.Window.{window_size, window_start}
 use Rattle.interp.specs.Lagrange.{node_from, node_of, factors, weight_of, lagrange_of}
 use Rattle.hermite.specs.declared.Point.{Point}
 use Rattle.hermite.specs.Hermite.{difference, product, product', value_to, slope_to, table_of, hermite_of}
+use Rattle.refusal.specs.declared.Refusal.{Refusal}
+use Rattle.daf.specs.declared.Daf.{Daf}
 
 -- The double of a whole number, and the pattern of a double.
 abbrev pub n : ℕ → Float
@@ -49,9 +48,9 @@ abbrev pub record123 : ℕ → Float
 record123 = list (n 0 ∷ n 2 ∷ n 1 ∷ n 2 ∷ n 3 ∷ n 1 ∷ n 2 ∷ n 3 ∷ n 1 ∷ n 2 ∷ n 3 ∷ [])
 
 -- x and vx of what a type 2 record gives.
-abbrev pub first : Cheby → List ℕ
-first (Value s) = bits s.x ∷ bits s.vx ∷ []
-first NoRadius = []
+abbrev pub first : Option State → List ℕ
+first (Some s) = bits s.x ∷ bits s.vx ∷ []
+first None = []
 
 -- A kernel of three records: its summary record, record 2, has the count whose double ends in these two bytes.
 abbrev pub counts : ℕ → ℕ → List ℕ
@@ -60,9 +59,9 @@ counts a b =
     ++ replicate 928 0 ++ replicate 22 0 ++ (a ∷ b ∷ []) ++ replicate 2024 0
 
 -- The summaries of an opening, or its refusal's number.
-abbrev pub outcome : Opened → List ℕ
-outcome (Accepted d) = d.summaries ∷ []
-outcome (Refused r) = number_of r ∷ []
+abbrev pub outcome : Result Daf Refusal → List ℕ
+outcome (Ok d) = d.summaries ∷ []
+outcome (Err r) = number_of r ∷ []
 
 abbrev pub point : Point → List ℕ
 point p = bits p.value ∷ bits p.slope ∷ []

@@ -9,10 +9,9 @@ use Rattle.admission.proofs.matrix_for.Goals as goal
 pub returns-then-any_over : goal.returns-then-any_over
 returns-then-any_over c = sym (too_long_lem _ _ _ (sym c.any_over.ensures ∙ c.if-any_over.true))
 
-pub returns-then-matrix-eq-MATRIX : goal.returns-then-matrix-eq-MATRIX
-returns-then-matrix-eq-MATRIX c =
-    sym (all_short _ _ _ true (sym c.any_over.ensures ∙ c.if-any_over.false) (eq-eqb _ _ c.if-matrix-eq-MATRIX.true))
+pub returns-then-matrix-ne-MATRIX : goal.returns-then-matrix-ne-MATRIX
+returns-then-matrix-ne-MATRIX c =
+    sym (all_short _ _ _ false (sym c.any_over.ensures ∙ c.if-any_over.false) (ne_eqb _ _ c.if-matrix-ne-MATRIX.true))
 
-pub returns-else-matrix-eq-MATRIX : goal.returns-else-matrix-eq-MATRIX
-returns-else-matrix-eq-MATRIX c =
-    sym (all_short _ _ _ false (sym c.any_over.ensures ∙ c.if-any_over.false) (ne_eqb _ _ c.if-matrix-eq-MATRIX.false))
+pub returns : goal.returns
+returns c = sym (all_short _ _ _ true (sym c.any_over.ensures ∙ c.if-any_over.false) (eq-eqb _ _ c.if-matrix-ne-MATRIX.false))

@@ -3,8 +3,7 @@ use mathlib.Core.Path.{◌∙◌, ap, sym, subst}
 use Prim.Native.Nat.{◌≤◌}
 use native.Mathlib.Nat.{le_refl}
 use Rattle.table.specs.Places.{table_limit, empty_places}
-use Rattle.opening.specs.declared.Plan.{Plan}
-use Rattle.opening.specs.Steps.{Fits, carried_out}
+use Rattle.opening.specs.Steps.{Plan, Fits, carried_out}
 use Rattle.owned.specs.Owned.{opened_by}
 use Rattle.admission.proofs.Ways.{plan_for_fits, opened_for_lem}
 use borrow.Author.Rules.{rules}

@@ -1,51 +1,13 @@
--- `ask_text::put_text` meets its contract: the plan's reply, with the matrix or without one, is the text. Assumes nothing.
-use mathlib.Core.Path.{◌≡◌, sym, ap, ◌∙◌, subst}
-use mathlib.Core.List.{List}
-use Prim.Native.Nat.{ℕ}
-use native.Mathlib.Nat.{le_refl}
-use lib.IntN.{ℤ}
+-- `ask_text::put_text` meets its contract: the page is the buffer. Assumes nothing.
+use mathlib.Core.Path.{ap}
 use mir.Syntax.{w32}
 use mir.ValLaws.{to_z-of_z}
-use borrow.Author.Tests.{eq-eqb, ne_eqb}
-use Rattle.daf.specs.declared.Family.TheVariants.{Spk}
-use Rattle.frame.specs.Frame.{Matrix}
-use Rattle.table.specs.Places.{lent_limit}
-use Rattle.opening.specs.declared.Plan.{Plan}
-use Rattle.opening.specs.Steps.{Fits}
-use Rattle.spk.specs.declared.Wanted.TheVariants.{In}
-use Rattle.lines.specs.Written.{Written}
-use Rattle.admission.specs.Order.{run_plan}
-use Rattle.admission.proofs.Ways.{run_plan_fits}
-use Rattle.ask_text.specs.Records.{question_size, question_mark}
-use Rattle.ask_text.specs.Steps.{planned_text}
-use Rattle.ask_text.proofs.Replies.{turned_text_lem, plain_text}
 use borrow.Author.Rules.{rules}
+use Rattle.lines.proofs.Texts.{left}
+use Rattle.ask_text.specs.Text.{ask_text}
 use Rattle.ask_text.proofs.put_text.Goals as goal
 
--- the plan can be carried out
-fits : (kernel asked : List ℕ) (p : Plan) → p ≡ run_plan Spk lent_limit question_size question_mark kernel asked → Fits lent_limit kernel p
-fits kernel asked p e = subst (Fits lent_limit kernel) (sym e) (run_plan_fits Spk lent_limit question_size question_mark kernel asked lent_limit (le_refl lent_limit))
-
-pub put_planned-requires : goal.put_planned-requires
-put_planned-requires c =
-    (fits c.args.kernel.now c.args.asked.now c.plan-p.result c.plan-p.ensures, c.requires)
-
-pub put_planned-requires-else-matrix-eq-MATRIX : goal.put_planned-requires-else-matrix-eq-MATRIX
-put_planned-requires-else-matrix-eq-MATRIX c =
-    (fits c.args.kernel.now c.args.asked.now c.plan-p.result c.plan-p.ensures, c.requires)
-
-pub returns-then-matrix-eq-MATRIX-clause-written : goal.returns-then-matrix-eq-MATRIX-clause-written
-returns-then-matrix-eq-MATRIX-clause-written c =
-    let a = c.args in subst (λ (l : List ℕ). Written a.out.now 0 l c.put_planned.new.out c.put_planned.result)
-    (ap (λ (f : ℤ). planned_text a.kernel.now a.asked.now c.plan-p.result (In f) c.rows.result) (to_z-of_z w32 a.frame c.ranges.frame)
-    ∙ ap (λ (y : Plan). planned_text a.kernel.now a.asked.now y (In a.frame) c.rows.result) c.plan-p.ensures
-    ∙ ap (λ (m : Matrix). planned_text a.kernel.now a.asked.now (run_plan Spk lent_limit question_size question_mark a.kernel.now a.asked.now) (In a.frame) m) c.rows.ensures
-    ∙ turned_text_lem a.kernel.now a.asked.now a.matrix.now a.frame (eq-eqb _ _ c.if-matrix-eq-MATRIX.true))
-    c.put_planned.ensures.written
-
-pub returns-else-matrix-eq-MATRIX-clause-written : goal.returns-else-matrix-eq-MATRIX-clause-written
-returns-else-matrix-eq-MATRIX-clause-written c =
-    let a = c.args in subst (λ (l : List ℕ). Written a.out.now 0 l c.put_planned-else-matrix-eq-MATRIX.new.out c.put_planned-else-matrix-eq-MATRIX.result)
-    (ap (λ (y : Plan). planned_text a.kernel.now a.asked.now y _ _) c.plan-p.ensures
-    ∙ plain_text a.kernel.now a.asked.now a.matrix.now a.frame _ (ne_eqb _ _ c.if-matrix-eq-MATRIX.false))
-    c.put_planned-else-matrix-eq-MATRIX.ensures.written
+pub returns-clause-written : goal.returns-clause-written
+returns-clause-written c =
+    let a = c.args in
+    rw (← (ap (ask_text a.kernel.now a.asked.now a.matrix.now) (to_z-of_z w32 a.frame c.ranges.frame))) (left c.put_reply.ensures.written (search rules))

@@ -3,7 +3,6 @@ use mathlib.Core.Path.{◌≡◌}
 use mathlib.Core.List.{List, [], ◌∷◌}
 use lib.Ieee.{Float}
 use Rattle.ask_text.specs.Records.{rows_of}
-use borrow.Author.Rules.{rules}
 use Rattle.ask_text.proofs.rows.Goals as goal
 
 -- a matrix by its numbers

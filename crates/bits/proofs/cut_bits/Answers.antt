@@ -1,7 +1,6 @@
 -- `bits::cut_bits` meets its contract: `proofs/Whole.antt` has a law for each of its five ways. Assumes nothing.
 use native.Mathlib.Omega.{arith}
 use Rattle.bits.proofs.Whole.{cut_above, cut_none, cut_down, cut_up, cut_most}
-use borrow.Author.Rules.{rules}
 use Rattle.bits.proofs.cut_bits.Goals as goal
 
 -- below 1

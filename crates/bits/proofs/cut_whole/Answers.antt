@@ -1,6 +1,5 @@
 -- `bits::cut_whole` meets its contract: the way of `cut_bits` from 1 on. Assumes nothing.
 use Rattle.bits.proofs.Whole.{cut_down}
-use borrow.Author.Rules.{rules}
 use Rattle.bits.proofs.cut_whole.Goals as goal
 
 pub returns : goal.returns

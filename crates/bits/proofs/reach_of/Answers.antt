@@ -1,7 +1,6 @@
 -- `bits::reach_of` meets its contract: below 0 before the records, and else by the whole part at 64 bits. Assumes nothing.
 use native.Mathlib.Omega.{arith}
 use Rattle.bits.proofs.Reaching.{before_all, inside_all, after_all}
-use borrow.Author.Rules.{rules}
 use Rattle.bits.proofs.reach_of.Goals as goal
 
 pub returns-then-q : goal.returns-then-q

@@ -2,7 +2,6 @@
 use native.Mathlib.Omega.{arith}
 use Rattle.bits.proofs.Few.{is_whole, part_least, part_short}
 use Rattle.bits.proofs.Reaching.{before_all, inside_all, after_all}
-use borrow.Author.Rules.{rules}
 use Rattle.bits.proofs.reach_of_few.Goals as goal
 
 pub returns-then-q : goal.returns-then-q

@@ -6,9 +6,8 @@ use native.Mathlib.Omega.{arith}
 use lib.Dec.{T}
 use lib.Ieee.{Float, binary64, fits, of_bits, to_bits, to_unsigned, lt, le}
 use lib.Ieee.Bits.{of_bits-to_bits}
-use borrow.Author.Rules.{rules}
 use Rattle.bits.specs.F64.{one, whole}
-use Rattle.bits.proofs.Few.{is_whole, above_one, part_one, part_none, part_below, part_from, placed, above_number}
+use Rattle.bits.proofs.Few.{is_whole, above_one, part_one, part_none, part_below, part_from, placed}
 use Rattle.bits.proofs.Nan.{yes}
 use Rattle.bits.proofs.Whole.{record_cut}
 use Rattle.bits.proofs.record_of_few.Goals as goal

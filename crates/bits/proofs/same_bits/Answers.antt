@@ -1,25 +1,32 @@
 -- `bits::same_bits` meets its contract: two doubles that are no NaN are the same where their patterns are. Assumes nothing.
-use Rattle.bits.proofs.Nan.{yes, is_number, is_nan_lem}
+use mathlib.Core.Path.{◌≡◌, sym, ap, ◌∙◌}
+use mathlib.Core.Bool.{Bool, true, false, not, true≢false, false≢true}
+use Rattle.bits.proofs.Nan.{yes, no, the_nan}
 use Rattle.bits.proofs.Patterns.{nan_left, nan_right, bits_same}
 use Rattle.bits.proofs.same_bits.Goals as goal
+use Rattle.bits.proofs.same_bits.Goals.{then-not-is_nan, else-not-is_nan}
 
--- a is a NaN
-pub returns-then-a : goal.returns-then-a
-returns-then-a c = let a = c.args in nan_left a.a a.b (is_nan_lem a.a c.if-a.true)
+not_false : (b : Bool) → not b ≡ false → b ≡ true
+not_false true e = cc
+not_false false e = absurd (true≢false e)
 
--- b is a NaN
-pub returns-then-b : goal.returns-then-b
-returns-then-b c = let a = c.args in nan_right a.a a.b (is_nan_lem a.b c.if-b.true)
+-- neither is a NaN: the two patterns
+pub returns-then-not-is_nan-2 : goal.returns-then-not-is_nan-2
+returns-then-not-is_nan-2 c =
+    let a = c.args in
+    let ok = c.if-not-is_nan-2.true in
+    elim c.if-not-is_nan.branch [
+      | then-not-is_nan w ↦ bits_same a.a a.b (yes c.well_formed.0.1) (yes c.well_formed.1.0.1) (no (sym c.is_nan.ensures.value ∙ w.if-not-is_nan.true))
+      | else-not-is_nan w ↦ absurd (false≢true (sym (w.value-is ∙ ap not w.if-not-is_nan.false) ∙ ok))
+    ]
 
--- a is none
-pub float_to_bits-result : goal.float_to_bits-result
-float_to_bits-result c = is_number c.args.a c.if-a.false
-
--- nor is b
-pub float_to_bits-result-2 : goal.float_to_bits-result-2
-float_to_bits-result-2 c = is_number c.args.b c.if-b.false
-
--- the two patterns; `.good` has a part for each parameter, nested to the right
-pub returns : goal.returns
-returns c =
-    bits_same c.args.a c.args.b (yes c.well_formed.0.1) (yes c.well_formed.1.0.1) (is_number c.args.a c.if-a.false)
+-- one is
+pub returns-else-not-is_nan-2 : goal.returns-else-not-is_nan-2
+returns-else-not-is_nan-2 c =
+    let a = c.args in
+    let none = c.if-not-is_nan-2.false in
+    none
+    ∙ elim c.if-not-is_nan.branch [
+      | then-not-is_nan w ↦ nan_right a.a a.b (the_nan a.b (sym w.is_nan-then-not-is_nan.ensures.value ∙ not_false _ (sym w.value-is ∙ none)))
+      | else-not-is_nan w ↦ nan_left a.a a.b (the_nan a.a (sym c.is_nan.ensures.value ∙ w.if-not-is_nan.false))
+    ]

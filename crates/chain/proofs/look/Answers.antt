@@ -6,11 +6,11 @@ use Rattle.chain.proofs.Steps.{given_in, look_seen, look_given}
 use borrow.Author.Rules.{rules}
 use Rattle.chain.proofs.look.Goals as goal
 
-pub returns-in-Refused : goal.returns-in-Refused
-returns-in-Refused c = look_seen _ _ _ _ _ _ c.requires.1 (sym c.evaluate-e.ensures.value ∙ c.in-Refused.is)
+pub returns-in-Err : goal.returns-in-Err
+returns-in-Err c = look_seen _ _ _ _ _ _ c.requires.1 (sym c.in-Err.ensures.value)
 
-pub returns-in-State : goal.returns-in-State
-returns-in-State c =
+pub returns-in-Ok : goal.returns-in-Ok
+returns-in-Ok c =
     look_given _ _ _ _ _ _ _ _ c.requires.1
-    (sym c.evaluate-e.ensures.value ∙ c.in-State.is)
+    (sym c.in-Ok.ensures.value)
     (c.of.ensures ∙ given_in _ _ (to_z-of_z w32 c.args.s.frame (search rules))) c.met.ensures

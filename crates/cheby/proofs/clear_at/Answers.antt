@@ -3,7 +3,6 @@ use Prim.Native.Nat.{ℕ}
 use mathlib.Core.Path.{ap, ◌∙◌}
 use lib.Ieee.{binary64, is_nan}
 use lib.Ieee.Bits.{nan_bits_is}
-use borrow.Author.Rules.{rules}
 use Rattle.bits.specs.Bytes.{double_of}
 use Rattle.bits.proofs.Nan.{no}
 use Rattle.cheby.proofs.clear_at.Goals as goal

@@ -1,6 +1,5 @@
 -- `cheby::less_eight` meets its contract: four doubles, and the four after them. Assumes nothing.
 use native.Mathlib.Omega.{arith}
-use borrow.Author.Rules.{rules}
 use Rattle.cheby.proofs.Numbers.{numbers_joined}
 use Rattle.cheby.proofs.less_eight.Goals as goal
 

@@ -1,5 +1,4 @@
 -- `cheby::less_four` meets its contract, one sum at a time. Assumes nothing.
-use borrow.Author.Rules.{rules}
 use Rattle.cheby.proofs.Numbers.{all_four, numbers_four}
 use Rattle.cheby.proofs.less_four.Goals as goal
 

@@ -2,7 +2,6 @@
 use Prim.Native.Nat.{ℕ}
 use mathlib.Core.Path.{sym, ap, ◌∙◌}
 use lib.Ieee.{binary32, is_nan}
-use borrow.Author.Rules.{rules}
 use Rattle.bits.specs.Bytes.{double_of}
 use Rattle.cheby.proofs.Numbers.{less_finite}
 use Rattle.cheby.proofs.less_power.Goals as goal

@@ -4,7 +4,6 @@ use lib.Ieee.{Float}
 use Rattle.bits.specs.Record.{record_of, reach_of}
 use Rattle.cheby.specs.Cheby.{record_for, reach_for}
 use Rattle.cheby.proofs.Record.{chosen_eq}
-use borrow.Author.Rules.{rules}
 use Rattle.cheby.proofs.record_of_few.Goals as goal
 
 pub returns : goal.returns
@@ -12,4 +11,4 @@ unfolding record_for reach_for
 returns c =
     let n = c.args.n in
     let e = c.quotient-q.ensures in
-    chosen_eq _ _ (c.record_of_few-number.ensures ∙ ap (λ (q : Float). record_of q n) e) (c.reach_of_few-reach.ensures ∙ ap (λ (q : Float). reach_of q n) e)
+    chosen_eq _ _ (c.record_of_few.ensures ∙ ap (λ (q : Float). record_of q n) e) (c.reach_of_few.ensures ∙ ap (λ (q : Float). reach_of q n) e)

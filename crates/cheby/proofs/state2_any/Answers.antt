@@ -1,5 +1,4 @@
 -- `cheby::state2_any` meets its contract: the series at their bytes are those of the record.
-use borrow.Author.Rules.{rules}
 use Rattle.cheby.proofs.Record.{type2_some}
 use Rattle.cheby.proofs.state2_any.Goals as goal
 

@@ -1,7 +1,5 @@
 -- `cheby::type2_at` meets its contract: RADIUS is asked first.
 use mathlib.Core.Path.{sym, ◌∙◌}
-use native.Mathlib.Omega.{arith}
-use borrow.Author.Rules.{rules}
 use Rattle.cheby.proofs.Record.{refused_where}
 use Rattle.cheby.proofs.type2_at.Goals as goal
 

@@ -1,5 +1,4 @@
 -- `cheby::type3_at` meets its contract: the series at their bytes are those of the record.
-use borrow.Author.Rules.{rules}
 use Rattle.cheby.proofs.Record.{type3_both}
 use Rattle.cheby.proofs.type3_at.Goals as goal
 

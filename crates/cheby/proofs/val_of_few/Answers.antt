@@ -1,7 +1,6 @@
 -- `cheby::val_of_few` meets its contract: no coefficient gives +0, and one itself.
-use mathlib.Core.Path.{◌≡◌, refl}
+use mathlib.Core.Path.{◌≡◌}
 use native.Mathlib.Omega.{arith}
-use borrow.Author.Rules.{rules}
 use Rattle.cheby.specs.Cheby.{series_at}
 use Rattle.cheby.proofs.val_of_few.Goals as goal
 

@@ -1,10 +1,9 @@
 -- `daf::file_record` meets its contract: a law for each way through its tests. Assumes nothing.
+use Rattle.std.proofs.Common.{Ok}
 use mathlib.Core.Path.{sym, ap, ◌∙◌}
 use mathlib.Core.Bool.{not}
 use native.Mathlib.Omega.{arith}
-use Rattle.daf.specs.declared.Head.TheVariants.{First}
 use Rattle.daf.proofs.Heading.{too_short, too_long_lem, other_id, other_format, other_shape, file_fine}
-use borrow.Author.Rules.{rules}
 use Rattle.daf.proofs.file_record.Goals as goal
 
 pub returns-then-len-lt-RECORD : goal.returns-then-len-lt-RECORD
@@ -31,7 +30,7 @@ returns-then-not-shaped c =
 
 pub returns : goal.returns
 returns c =
-    ap First c.le_u32.ensures
+    ap Ok c.le_u32.ensures
     ∙ sym
     (file_fine _ _ (omega arith) (omega arith) (ap not (sym c.spells.ensures ∙ c.if-not-spells.false))
     (ap not (sym c.spells-2.ensures ∙ c.if-not-spells-2.false))

@@ -1,31 +1,24 @@
 -- `daf::name` meets its contract: a law for each way through its tests. Assumes nothing.
-use mathlib.Core.Path.{sym, ◌∙◌}
+use mathlib.Core.Path.{refl, sym, ◌∙◌}
+use Rattle.std.proofs.Common.{rules}
 use native.Mathlib.Omega.{arith}
-use borrow.Author.Tests.{not-true, not-false}
-use Rattle.daf.specs.Names.{is_nul}
-use Rattle.daf.proofs.Naming.{kept_le, name_past, name_other, name_fits, name_part}
-use borrow.Author.Rules.{rules}
+use Rattle.daf.specs.Names.{is_nul, is_space}
+use Rattle.daf.proofs.Naming.{name_past, name_other, name_part}
 use Rattle.daf.proofs.name.Goals as goal
+use Rattle.daf.proofs.name.Goals.{then-len-lt40-via-then-len-lt40, then-len-lt40-via-else-len-lt40+then-len-at}
 
 pub returns-then-len-lt40 : goal.returns-then-len-lt40
-returns-then-len-lt40 c = sym (name_past _ _ (omega arith))
-
-pub returns-then-len-at : goal.returns-then-len-at
-returns-then-len-at c = sym (name_past _ _ (omega arith))
+returns-then-len-lt40 c =
+    elim c.then-len-lt40.branch [
+      | then-len-lt40-via-then-len-lt40 w ↦ sym (name_past _ _ (omega arith))
+      | then-len-lt40-via-else-len-lt40+then-len-at w ↦ sym (name_past _ _ (omega arith))
+    ]
 
 pub returns-then-not-is_ascii : goal.returns-then-not-is_ascii
-returns-then-not-is_ascii c = sym (name_other _ _ (omega arith) (sym c.is_ascii.ensures ∙ c.if-not-is_ascii.true))
-
-pub without_spaces-n-requires : goal.without_spaces-n-requires
-without_spaces-n-requires c = let h = kept_le is_nul c.args.kernel.now c.args.at 40 in omega arith
-
-pub overflow_add-end : goal.overflow_add-end
-overflow_add-end c = let h = name_fits c.args.kernel.now c.args.at _ _ c.without_nuls.ensures c.without_spaces-n.ensures in omega arith
-
-pub slice_bounds-result-end-2 : goal.slice_bounds-result-end-2
-slice_bounds-result-end-2 c = let h = name_fits c.args.kernel.now c.args.at _ _ c.without_nuls.ensures c.without_spaces-n.ensures in omega arith
+returns-then-not-is_ascii c = sym (name_other _ _ (omega arith) refl (sym c.is_ascii.ensures ∙ c.if-not-is_ascii.true))
 
 pub returns : goal.returns
 returns c =
-    name_part _ _ _ _ c.without_nuls.ensures c.without_spaces-n.ensures (omega arith)
-    (sym c.is_ascii.ensures ∙ c.if-not-is_ascii.false)
+    name_part _ _ (omega arith) refl (sym c.is_ascii.ensures ∙ c.if-not-is_ascii.false)
+    (c.trimmed.ensures is_nul (λ b r p. search rules))
+    (c.trimmed-2.ensures is_space (λ b r p. search rules))

@@ -1,23 +1,16 @@
-use Rattle.std.proofs.Common.{◌∙◌, sym, ap}
+use Rattle.std.proofs.Common.{rules}
 use Rattle.daf.specs.declared.Family.TheVariants.{Spk}
 use Rattle.segment.specs.Evaluating.{evaluated}
 use Rattle.index.specs.Parts.{first_of, above_of}
-use Rattle.chain.specs.Walk.{chain_limit}
-use Rattle.spk.specs.Steps.{is_failed}
+use Rattle.chain.specs.Walked.{to_zero_by}
+use Rattle.spk.specs.Asking.{leg_from}
 use Rattle.indexed.specs.Stepping.{step_by}
-use Rattle.indexed.proofs.Stepping.{on_by}
-use Rattle.indexed.proofs.Asking.{chained_told, chained_failed}
+use Rattle.indexed.specs.Asking.{chained_by}
 use Rattle.indexed.proofs.chained.Goals as goal
 
-pub returns-then-is_failed : goal.returns-then-is_failed
-returns-then-is_failed c =
-    let a = c.args in
-    let ev = evaluated Spk a.kernel.now in
-    let x = c.walk-x.ensures ∙ ap (on_by (step_by ev a.table.now a.n (first_of a.ix.now) (above_of a.ix.now)) chain_limit) c.start_of-a.ensures in
-    x ∙ chained_failed ev a.table.now a.n a.ix.now a.q (ap is_failed (sym x) ∙ sym c.is_failed.ensures ∙ c.if-is_failed.true)
-
 pub returns : goal.returns
+unfolding chained_by
 returns c =
     let a = c.args in
-    rw (c.difference.ensures, c.walk-x.ensures, c.walk-y.ensures, c.start_of-a.ensures, c.start_of-b.ensures, c.swapped-back.ensures)
-    (chained_told (evaluated Spk a.kernel.now) a.table.now a.n a.ix.now a.q)
+    let by = step_by (evaluated Spk a.kernel.now) a.table.now a.n (first_of a.ix.now) (above_of a.ix.now) in
+    c.chain_of.ensures (λ p. to_zero_by by (leg_from p)) (λ p r k. search rules)

@@ -1,30 +1,20 @@
--- A turn looks at segment k, by `met_more`.
-use Rattle.std.proofs.Common.{◌∙◌, ◌||◌, false, sym, ap}
-use Rattle.index.specs.Marking.{others_of}
+-- The numbers that the walk down goes to are visited.
+use Rattle.std.proofs.Common.{rules, ◌≡◌, ◌∙◌, length, ap}
+use mir.Syntax.{w32}
+use mir.Val.{SFits}
+use mir.ValLaws.{to_z-of_z}
+use Rattle.index.specs.Visiting.{head_of, down}
 use Rattle.index.specs.Parts.{last_of, below_of}
-use Rattle.index.proofs.Turns.{rest_down_lem}
-use Rattle.index.proofs.Marking.{met_start, met_end}
-use Rattle.indexed.specs.Opening.{others_by}
-use Rattle.indexed.proofs.Scanning.{met_more, met_less}
+use Rattle.index.proofs.Iterating.{visits_walk_down, any_others}
 use Rattle.indexed.proofs.has_rival.Goals as goal
 
-pub loop-k-init : goal.loop-k-init
-loop-k-init c =
-    let a = c.args in
-    met_start a.table.now a.a a.i a.n (last_of a.ix.now) (below_of a.ix.now)
-    ∙ ap (λ k. false || others_of a.table.now a.a a.i (rest_down_lem (below_of a.ix.now) a.n k)) (sym c.start_at-k.ensures)
-
-pub loop-k-preserved : goal.loop-k-preserved
-loop-k-preserved c =
-    let a = c.args in
-    met_more a.table.now a.a a.i a.n (last_of a.ix.now) (below_of a.ix.now) (others_by a.table.now a.n a.ix.now a.a a.i)
-    c.loop-k.met c.or_rival-met.result c.loop-k.k c.unless_met-next.result c.segment_at-b.result
-    c.loop-k-test.true c.segment_at-b.ensures c.or_rival-met.ensures c.unless_met-next.ensures c.loop-k.invariant
-
-pub loop-k-smaller : goal.loop-k-smaller
-loop-k-smaller c = met_less c.args.n c.loop-k.k c.unless_met-next.result c.or_rival-met.result (below_of c.args.ix.now) c.loop-k-test.true c.unless_met-next.ensures
+pub any_rival-requires-clause-visited : goal.any_rival-requires-clause-visited
+any_rival-requires-clause-visited c = (_, visits_walk_down (below_of c.args.ix.now) (length c.args.table.now) c.args.n _ c.down.ensures c.requires.0)
 
 pub returns : goal.returns
 returns c =
     let a = c.args in
-    sym (c.loop-k.invariant ∙ met_end a.table.now a.a a.i a.n (last_of a.ix.now) (below_of a.ix.now) c.loop-k.met c.loop-k.k c.loop-k-test.false)
+    let fits : SFits w32 a.a.target = search rules in
+    let walk : c.down.result ≡ down (below_of a.ix.now) a.n (head_of (last_of a.ix.now) a.a.target) =
+    c.down.ensures ∙ ap (λ e. down (below_of a.ix.now) a.n (head_of (last_of a.ix.now) e)) (to_z-of_z w32 a.a.target fits) in
+    c.any_rival.ensures _ (visits_walk_down (below_of a.ix.now) (length a.table.now) a.n _ walk c.requires.0) ∙ any_others a.table.now a.a a.i _

@@ -26,4 +26,4 @@ unfolding left_at left_of
 returns c =
     let inv = c.loop-lo.invariant.1 in
     let test = λ (k : ℕ). le (every 8 c.args.kernel.now c.args.p k) c.args.et in
-    c.less.ensures ∙ ap (λ (r : ℕ). r - 1) (sym (bisect_end test inv.0 _ _ c.loop-lo-test.false) ∙ inv.2)
+    c.saturating_sub.ensures ∙ ap (λ (r : ℕ). r - 1) (sym (bisect_end test inv.0 _ _ c.loop-lo-test.false) ∙ inv.2)

@@ -5,6 +5,7 @@ use mathlib.Core.List.{List}
 use Prim.Native.Nat.{ℕ}
 use native.Mathlib.Omega.{arith}
 use Rattle.lines.specs.Written.{Written}
+use Rattle.lines.proofs.Texts.{left}
 use Rattle.listing_text.proofs.Texts.{output_text}
 use Rattle.listing_text.proofs.Few.{room_most}
 use borrow.Author.Rules.{rules}
@@ -16,8 +17,7 @@ put_text-requires c =
 
 pub returns-then-too_long-clause-written : goal.returns-then-too_long-clause-written
 returns-then-too_long-clause-written c =
-    subst (λ (l : List ℕ). Written c.args.out.now 0 l c.put_refusal.new.out c.put_refusal.result)
-    (sym (output_text c.args.kernel.now true (sym c.too_long.ensures ∙ c.if-too_long.true))) c.put_refusal.ensures.written
+    rw (output_text c.args.kernel.now true (sym c.too_long.ensures ∙ c.if-too_long.true)) (left c.put_refusal.ensures.written (search rules))
 
 pub returns-else-too_long-clause-written : goal.returns-else-too_long-clause-written
 returns-else-too_long-clause-written c =

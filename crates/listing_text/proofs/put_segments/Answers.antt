@@ -1,33 +1,29 @@
-use Rattle.std.proofs.Common.{◌≡◌, ℕ, suc, ◌+◌, ◌*◌, ◌≤◌, ◌∙◌, length, ap, sym, subst, arith}
-use Rattle.lines.specs.Written.{Written}
-use Rattle.table.specs.Segments.{seg}
-use Rattle.listing_text.specs.Rooms.{line_room}
+-- `listing_text::put_segments` meets its contract. Assumes nothing.
+use Rattle.std.proofs.Common.{subst, arith}
+use Rattle.lines.specs.Written.{Put}
+use Rattle.lines.proofs.Texts.{first_turn, next_turn, last_turn}
 use Rattle.listing_text.specs.Lines.{segment_text}
-use Rattle.listing_text.specs.Text.{segments_from}
-use Rattle.listing_text.proofs.Texts.{turn_text, start_text}
+use Rattle.listing_text.proofs.Texts.{lines_from, turns}
 use Rattle.listing_text.proofs.put_segments.Goals as goal
 
 pub loop-i-init : goal.loop-i-init
-loop-i-init c = (omega arith, start_text c.args.out.now c.args.at c.args.table.now, omega arith)
+loop-i-init c = (omega arith, first_turn (lines_from c.args.table.now) c.args.m c.args.page.now tt)
 
 pub segment_at-s-requires : goal.segment_at-s-requires
 segment_at-s-requires c = omega (arith, c.requires.0)
 
-pub put_segment-next-requires : goal.put_segment-next-requires
-put_segment-next-requires c = omega (arith, c.loop-i.invariant.2, c.requires.1, c.loop-i.auto.out)
+pub put_segment-requires : goal.put_segment-requires
+put_segment-requires c = omega (arith, c.requires.1, c.loop-i.invariant.0, c.loop-i.invariant.1.long)
 
 pub loop-i-preserved : goal.loop-i-preserved
 loop-i-preserved c =
-    let a = c.args in
-    let line = subst (λ s. Written c.loop-i.out c.loop-i.place (segment_text c.loop-i.i s) c.put_segment-next.new.out c.put_segment-next.result) c.segment_at-s.ensures c.put_segment-next.ensures.0 in
-    let up : suc c.loop-i.i ≡ c.loop-i.i + 1 = omega arith in (
-      omega arith,
-      subst (λ n. Written a.out.now a.at (segments_from a.table.now 0 n) c.put_segment-next.new.out c.put_segment-next.result) up (turn_text a.table.now c.loop-i.i c.loop-i.invariant.1 line),
-      omega (arith, c.loop-i.invariant.2, c.put_segment-next.ensures.1),
+    let line = subst (λ s. Put c.loop-i.page (segment_text c.loop-i.i s) c.put_segment.new.page) c.segment_at-s.ensures c.put_segment.ensures.written in (
+      omega (arith, c.loop-i.invariant.0, c.put_segment.ensures.upper_bound),
+      next_turn (turns c.args.table.now) c.args.m c.loop-i.i tt (omega arith) c.loop-i.invariant.1 line,
     )
 
-pub returns : goal.returns
-returns c =
-    let a = c.args in
-    let all : c.loop-i.i ≡ a.m = omega (arith, c.loop-i.invariant.0) in
-    (subst (λ n. Written a.out.now a.at (segments_from a.table.now 0 n) c.loop-i.out c.loop-i.place) all c.loop-i.invariant.1, omega (arith, all, c.loop-i.invariant.2))
+pub returns-clause-written : goal.returns-clause-written
+returns-clause-written c = last_turn (turns c.args.table.now) c.args.m c.loop-i.i tt (omega arith) c.loop-i.invariant.1
+
+pub returns-clause-upper_bound : goal.returns-clause-upper_bound
+returns-clause-upper_bound c = omega (arith, c.loop-i.invariant.0)

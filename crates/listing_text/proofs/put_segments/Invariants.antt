@@ -1,12 +1,10 @@
--- The lines of the first i segments are put.
+-- What is left are the lines of the segments from i on. Assumes nothing.
 use Rattle.std.proofs.Common.{◌≤◌, ◌+◌, ◌*◌, ◌-◌}
-use Rattle.lines.specs.Written.{Written}
+use Rattle.lines.proofs.Texts.{Rest}
 use Rattle.listing_text.specs.Rooms.{line_room}
-use Rattle.listing_text.specs.Text.{segments_from}
+use Rattle.listing_text.proofs.Texts.{lines_from}
 use Rattle.listing_text.proofs.put_segments.Given as goal
 
 abbrev pub invariant-loop-i : goal.invariant-loop-i
-invariant-loop-i l = (l.i ≤ l.m) × Written l.fn.out l.at (segments_from l.table 0 l.i) l.out l.place × (l.place ≤ l.at + line_room * l.i)
-
-abbrev pub decreases-loop-i : goal.decreases-loop-i
-decreases-loop-i l = l.m - l.i
+invariant-loop-i l =
+    (l.page.at ≤ l.fn.page.at + line_room * l.i) × Rest l.fn.page (lines_from l.table 0 tt l.m) l.page (lines_from l.table l.i tt (l.m - l.i))

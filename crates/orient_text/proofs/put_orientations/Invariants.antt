@@ -1,16 +1,13 @@
--- A text is put, and with the lines of the questions that are left it makes all the lines.
-use Rattle.std.proofs.Common.{◌≡◌, ℕ, ◌≤◌, ◌*◌, ◌-◌, ◌++◌, List, length}
+-- What is left are the lines of the questions from i on. Assumes nothing.
+use Rattle.std.proofs.Common.{◌≤◌, ◌+◌, ◌*◌, ◌-◌, length}
 use Rattle.table.specs.Places.{limit_of}
-use Rattle.lines.specs.Written.{Written}
+use Rattle.lines.proofs.Texts.{Rest}
 use Rattle.orient_text.specs.Lines.{oriented_room}
 use Rattle.orient_text.proofs.Turns.{lines_from}
 use Rattle.orient_text.proofs.put_orientations.Given as goal
 
 abbrev pub invariant-loop-i : goal.invariant-loop-i
 invariant-loop-i l =
-    (l.i ≤ l.m) × (l.at ≤ oriented_room * l.i) × ((text : List ℕ) × Written l.fn.out 0 text l.out l.at
-    × (lines_from (limit_of (length l.table)) l.kernel l.table l.n l.ix l.asked 0 l.m
-    ≡ text ++ lines_from (limit_of (length l.table)) l.kernel l.table l.n l.ix l.asked l.i (l.m - l.i)))
-
-abbrev pub decreases-loop-i : goal.decreases-loop-i
-decreases-loop-i l = l.m - l.i
+    (l.page.at ≤ l.fn.page.at + oriented_room * l.i)
+    × Rest l.fn.page (lines_from (limit_of (length l.table)) l.kernel l.table l.n l.ix l.asked 0 tt l.m) l.page
+    (lines_from (limit_of (length l.table)) l.kernel l.table l.n l.ix l.asked l.i tt (l.m - l.i))

@@ -3,16 +3,15 @@ use mathlib.Core.Path.{sym, ◌∙◌, subst}
 use mathlib.Core.Bool.{true, false}
 use mathlib.Core.List.{List}
 use Prim.Native.Nat.{ℕ}
-use native.Mathlib.Omega.{arith}
 use Rattle.lines.specs.Written.{Written}
+use Rattle.lines.proofs.Texts.{left}
 use Rattle.orient_text.proofs.Replies.{output_text}
 use borrow.Author.Rules.{rules}
 use Rattle.orient_text.proofs.put_output.Goals as goal
 
 pub returns-then-over-clause-written : goal.returns-then-over-clause-written
 returns-then-over-clause-written c =
-    let a = c.args in subst (λ (l : List ℕ). Written a.out.now 0 l c.put_refusal.new.out c.put_refusal.result)
-    (sym (output_text a.kernel.now a.asked.now true (sym c.over.ensures ∙ c.if-over.true))) c.put_refusal.ensures.written
+    rw (output_text c.args.kernel.now c.args.asked.now true (sym c.over.ensures ∙ c.if-over.true)) (left c.put_refusal.ensures.written (search rules))
 
 pub returns-else-over-clause-written : goal.returns-else-over-clause-written
 returns-else-over-clause-written c =

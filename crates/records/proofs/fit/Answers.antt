@@ -2,7 +2,6 @@
 use mathlib.Core.Path.{◌≡◌, refl, sym, ◌∙◌, subst}
 use mathlib.Core.Bool.{true, false}
 use Prim.Native.Nat.{ℕ, ◌/◌}
-use native.Mathlib.Nat.{le_antisymm}
 use native.Mathlib.Omega.{arith}
 use lib.ListN.{length}
 use Rattle.records.specs.Records.{all_marked}
@@ -14,22 +13,22 @@ returns-then-s-size-ne0 c = let a = c.args in sym (cut_short_lem a.size a.mark a
 
 pub loop-i-init : goal.loop-i-init
 unfolding all_marked
-loop-i-init c = (omega arith, refl)
+loop-i-init c = refl
 
 pub returns-then-not-is_marked : goal.returns-then-not-is_marked
 returns-then-not-is_marked c =
     let a = c.args in
     sym (whole_file a.size a.mark a.s.now false c.if-s-size-ne0.false
-    (one_less a.size a.mark a.s.now (length a.s.now / a.size) c.loop-i.i c.loop-i-test.true
+    (one_less a.size a.mark a.s.now (length a.s.now / a.size) c.loop-i.i (omega arith)
     (sym c.is_marked.ensures ∙ c.if-not-is_marked.true)))
 
 pub loop-i-preserved : goal.loop-i-preserved
 loop-i-preserved c =
     let a = c.args in
-    (omega arith, one_more a.size a.mark a.s.now c.loop-i.i c.loop-i.invariant.1 (sym c.is_marked.ensures ∙ c.if-not-is_marked.false))
+    one_more a.size a.mark a.s.now c.loop-i.i c.loop-i.invariant (sym c.is_marked.ensures ∙ c.if-not-is_marked.false)
 
 pub returns : goal.returns
 returns c =
     let a = c.args in
     sym (whole_file a.size a.mark a.s.now true c.if-s-size-ne0.false
-    (subst (λ (k : ℕ). all_marked a.size a.mark a.s.now k ≡ true) (le_antisymm c.loop-i.invariant.0 c.loop-i-test.false) c.loop-i.invariant.1))
+    (subst (λ (k : ℕ). all_marked a.size a.mark a.s.now k ≡ true) (omega arith) c.loop-i.invariant))

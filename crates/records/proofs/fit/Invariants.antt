@@ -1,13 +1,8 @@
 -- The loop's invariant: the first i records have their mark. Assumes nothing.
 use mathlib.Core.Path.{◌≡◌}
 use mathlib.Core.Bool.{true}
-use Prim.Native.Nat.{◌-◌, ◌/◌, ◌≤◌}
-use lib.ListN.{length}
 use Rattle.records.specs.Records.{all_marked}
 use Rattle.records.proofs.fit.Given as goal
 
 abbrev pub invariant-loop-i : goal.invariant-loop-i
-invariant-loop-i l = (l.i ≤ length l.s / l.size) × (all_marked l.size l.mark l.s l.i ≡ true)
-
-abbrev pub decreases-loop-i : goal.decreases-loop-i
-decreases-loop-i l = length l.s / l.size - l.i
+invariant-loop-i l = all_marked l.size l.mark l.s l.i ≡ true

@@ -1,10 +1,6 @@
--- Each block starts after the one before it. Assumes nothing.
-use Prim.Native.Nat.{◌-◌, ◌≤◌}
+-- Each block leaves less. Assumes nothing.
 use lib.ListN.{length}
 use Rattle.replay_daf.proofs.replay.Given as goal
 
-abbrev pub invariant-loop-at : goal.invariant-loop-at
-invariant-loop-at l = l.at ≤ length l.s
-
-abbrev pub decreases-loop-at : goal.decreases-loop-at
-decreases-loop-at l = length l.s - l.at
+abbrev pub decreases-loop-len : goal.decreases-loop-len
+decreases-loop-len l = length l.rest

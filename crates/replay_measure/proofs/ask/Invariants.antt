@@ -1,9 +1,6 @@
 -- The next question is one of the file. Assumes nothing.
-use Prim.Native.Nat.{◌-◌, ◌≤◌, ◌<◌}
+use Prim.Native.Nat.{◌<◌}
 use Rattle.replay_measure.proofs.ask.Given as goal
 
-abbrev pub invariant-loop-i : goal.invariant-loop-i
-invariant-loop-i l = (l.at < l.n) × (l.i ≤ l.passes)
-
-abbrev pub decreases-loop-i : goal.decreases-loop-i
-decreases-loop-i l = l.passes - l.i
+abbrev pub invariant-loop : goal.invariant-loop
+invariant-loop l = l.at < l.n

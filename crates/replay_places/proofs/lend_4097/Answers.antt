@@ -1,8 +1,7 @@
 -- A plan for so many places fills no more than these, the second time too. Assumes nothing.
 use mathlib.Core.Path.{sym, subst}
 use Prim.Native.Nat.{ℕ}
-use Rattle.opening.specs.declared.Plan.{Plan}
-use Rattle.opening.specs.Steps.{Fits}
+use Rattle.opening.specs.Steps.{Plan, Fits}
 use Rattle.opening.proofs.Planned.{plan_ready}
 use Rattle.replay_places.proofs.lend_4097.Goals as goal
 

@@ -4,16 +4,15 @@ use mathlib.Core.Path.{refl, sym, ap, ◌∙◌}
 use native.Mathlib.Omega.{arith}
 use lib.ListN.{length}
 use borrow.Author.Rules.{rules}
-use Rattle.refusal.proofs.Told.{in_numbers}
 use Rattle.cheby.specs.Cheby.{record_for}
 use Rattle.cheby.proofs.Record.{refused_where}
 use Rattle.segment.specs.Kinds.{kind_with}
 use Rattle.segment.specs.Told.{evaluated_told}
-use Rattle.segment.specs.declared.Evaluated.TheVariants.{State as Answer}
+use Rattle.std.proofs.Common.{Ok}
 use Rattle.segment.specs.declared.Form.TheVariants.{Two, Three}
 use Rattle.segment.proofs.Tests.{is_type}
 use Rattle.segment.proofs.Forms.{form_two}
-use Rattle.segment.proofs.Plain.{Fitting, two_fits, three_fits}
+use Rattle.segment.proofs.Plain.{two_fits, three_fits}
 use Rattle.segment.proofs.AfterTests.{at_byte, at_word, record_below, record_ends, two_refused, two_answered, three_answered}
 use Rattle.segment.proofs.evaluate.Goals as goal
 
@@ -90,7 +89,7 @@ state2_at-state-requires c = (
 pub returns-then-plainly_fits-clause-value : goal.returns-then-plainly_fits-clause-value
 returns-then-plainly_fits-clause-value c =
     let place = c.plain_place-at.ensures in
-    (ap Answer c.of.ensures
+    (ap Ok c.of.ensures
     ∙ two_answered _ c.start_of.result _ _ _ _ _ _ _ _ (at_byte place) _ _ (at_word place) c.plain_coefficients-c.ensures (sym c.state2_at-state.ensures)
     ∙ (let a = c.args in
     two_fits a.family a.kernel.now a.s c.of_records-t.result
@@ -101,7 +100,7 @@ returns-then-plainly_fits-clause-value c =
 pub returns-then-plainly_fits-clause-told : goal.returns-then-plainly_fits-clause-told
 returns-then-plainly_fits-clause-told c =
     let place = c.plain_place-at.ensures in
-    ap evaluated_told (ap Answer c.of.ensures
+    ap evaluated_told (ap Ok c.of.ensures
     ∙ two_answered _ c.start_of.result _ _ _ _ _ _ _ _ (at_byte place) _ _ (at_word place) c.plain_coefficients-c.ensures (sym c.state2_at-state.ensures)
     ∙ (let a = c.args in
     two_fits a.family a.kernel.now a.s c.of_records-t.result
@@ -119,7 +118,7 @@ state3_at-state-requires c =
           three_fits a.family a.kernel.now a.s c.of_records-t-in-Type3.result
           (c.is_three.ensures c.if-is_three.true)
           (c.in-Type3.is ∙ ap (kind_with Three) (sym c.of_records-t-in-Type3.ensures))
-          (c.plainly_fits-then-is_three.ensures c.if-plainly_fits-2.true)).records in
+          (c.plainly_fits-in-Type3.ensures c.if-plainly_fits-2.true)).records in
           let ends : c.plain_place-at-then-plainly_fits-2.result.byte + 8 * t.size ≤ length a.kernel.now = omega (
             arith,
             r.within,
@@ -131,28 +130,28 @@ state3_at-state-requires c =
           three_fits a.family a.kernel.now a.s c.of_records-t-in-Type3.result
           (c.is_three.ensures c.if-is_three.true)
           (c.in-Type3.is ∙ ap (kind_with Three) (sym c.of_records-t-in-Type3.ensures))
-          (c.plainly_fits-then-is_three.ensures c.if-plainly_fits-2.true)).records.size,
+          (c.plainly_fits-in-Type3.ensures c.if-plainly_fits-2.true)).records.size,
       c.plain_coefficients-c-then-plainly_fits-2.ensures,
     )
 
 pub returns-then-plainly_fits-2-clause-value : goal.returns-then-plainly_fits-2-clause-value
 returns-then-plainly_fits-2-clause-value c =
     let place = c.plain_place-at-then-plainly_fits-2.ensures in
-    (ap Answer c.of-then-plainly_fits-2.ensures
+    (ap Ok c.of-then-plainly_fits-2.ensures
     ∙ three_answered _ c.start_of-then-plainly_fits-2.result _ _ _ _ _ _ _ _ (at_byte place) _ _ (at_word place) c.plain_coefficients-c-then-plainly_fits-2.ensures c.state3_at-state.ensures
     ∙ (let a = c.args in
     three_fits a.family a.kernel.now a.s c.of_records-t-in-Type3.result
     (c.is_three.ensures c.if-is_three.true)
     (c.in-Type3.is ∙ ap (kind_with Three) (sym c.of_records-t-in-Type3.ensures))
-    (c.plainly_fits-then-is_three.ensures c.if-plainly_fits-2.true)).behind c.start_of-then-plainly_fits-2.result _ _ c.start_of-then-plainly_fits-2.ensures.0)
+    (c.plainly_fits-in-Type3.ensures c.if-plainly_fits-2.true)).behind c.start_of-then-plainly_fits-2.result _ _ c.start_of-then-plainly_fits-2.ensures.0)
 
 pub returns-then-plainly_fits-2-clause-told : goal.returns-then-plainly_fits-2-clause-told
 returns-then-plainly_fits-2-clause-told c =
     let place = c.plain_place-at-then-plainly_fits-2.ensures in
-    ap evaluated_told (ap Answer c.of-then-plainly_fits-2.ensures
+    ap evaluated_told (ap Ok c.of-then-plainly_fits-2.ensures
     ∙ three_answered _ c.start_of-then-plainly_fits-2.result _ _ _ _ _ _ _ _ (at_byte place) _ _ (at_word place) c.plain_coefficients-c-then-plainly_fits-2.ensures c.state3_at-state.ensures
     ∙ (let a = c.args in
     three_fits a.family a.kernel.now a.s c.of_records-t-in-Type3.result
     (c.is_three.ensures c.if-is_three.true)
     (c.in-Type3.is ∙ ap (kind_with Three) (sym c.of_records-t-in-Type3.ensures))
-    (c.plainly_fits-then-is_three.ensures c.if-plainly_fits-2.true)).behind c.start_of-then-plainly_fits-2.result _ _ c.start_of-then-plainly_fits-2.ensures.0)
+    (c.plainly_fits-in-Type3.ensures c.if-plainly_fits-2.true)).behind c.start_of-then-plainly_fits-2.result _ _ c.start_of-then-plainly_fits-2.ensures.0)

@@ -1,30 +1,21 @@
 -- `spk::alone_by` meets its contract: an answer for each way. Assumes nothing.
 use mathlib.Core.Path.{◌∙◌, sym}
-use Rattle.spk.proofs.Order.{nan_yes, nan_no}
-use Rattle.spk.proofs.Single.{alone_unfit, alone_nan, alone_none, alone_some}
-use Rattle.table.proofs.Limits.{limit_over, limit_short, limit_fits}
-use borrow.Author.Rules.{rules}
+use native.Mathlib.Omega.{arith}
+use Rattle.table.proofs.Early.{ready_fits}
+use Rattle.table.proofs.Limits.{limit_told}
+use Rattle.spk.proofs.Single.{unready, ready_none, ready_some}
 use Rattle.spk.proofs.alone_by.Goals as goal
 
-pub returns-then-n-gt-LENT : goal.returns-then-n-gt-LENT
-returns-then-n-gt-LENT c = c.refused.ensures ∙ sym (alone_unfit _ _ _ _ _ _ (limit_over c.args.places _ c.if-n-gt-LENT.true))
-
-pub returns-then-places-n : goal.returns-then-places-n
-returns-then-places-n c = c.refused-then-places-n.ensures ∙ sym (alone_unfit _ _ _ _ _ _ (limit_short c.args.places _ c.if-places-n.true))
-
-pub returns-then-et : goal.returns-then-et
-returns-then-et c =
-    c.refused-then-et.ensures
-    ∙ sym (alone_nan _ _ _ _ _ _ (limit_fits c.args.places _ c.if-n-gt-LENT.false c.if-places-n.false) (nan_yes _ c.if-et.true))
+pub returns-in-Err : goal.returns-in-Err
+returns-in-Err c = c.refused.ensures ∙ unready _ _ _ _ _ _ _ (sym c.in-Err.ensures)
 
 pub returns-then-n-number : goal.returns-then-n-number
-returns-then-n-number c =
-    c.refused-then-n-number.ensures
-    ∙ sym (alone_none _ _ _ _ _ _ (limit_fits c.args.places _ c.if-n-gt-LENT.false c.if-places-n.false)
-    (nan_no _ c.if-et.false) c.if-n-number.true)
+returns-then-n-number c = c.refused-then-n-number.ensures ∙ ready_none _ _ _ _ _ _ c.in_default.field-0 (sym c.in_default.ensures) c.if-n-number.true
+
+pub evaluated_at-requires : goal.evaluated_at-requires
+evaluated_at-requires c =
+    let fits = limit_told c.args.places c.args.n (ready_fits _ _ c.args.et c.in_default.field-0 (sym c.in_default.ensures)) in
+    omega (arith, fits.1)
 
 pub returns : goal.returns
-returns c =
-    c.evaluated_at.ensures
-    ∙ sym (alone_some _ _ _ _ _ _ (limit_fits c.args.places _ c.if-n-gt-LENT.false c.if-places-n.false)
-    (nan_no _ c.if-et.false) c.if-n-number.false)
+returns c = c.evaluated_at.ensures ∙ ready_some _ _ _ _ _ _ c.in_default.field-0 (sym c.in_default.ensures) c.if-n-number.false

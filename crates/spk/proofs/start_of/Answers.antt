@@ -2,7 +2,6 @@
 use mathlib.Core.Path.{sym, ◌∙◌}
 use mathlib.Core.Bool.{true, false}
 use Rattle.chain.proofs.Walks.{begin_at}
-use borrow.Author.Rules.{rules}
 use Rattle.spk.proofs.start_of.Goals as goal
 
 pub returns-then-is_zero : goal.returns-then-is_zero

@@ -1,7 +1,6 @@
 -- `table::name_in` meets its contract: an answer for each way. Assumes nothing.
 use mathlib.Core.Path.{◌∙◌, sym}
 use Rattle.table.proofs.Names.{with_none, with_some}
-use borrow.Author.Rules.{rules}
 use Rattle.table.proofs.name_in.Goals as goal
 
 pub returns-then-n-number : goal.returns-then-n-number

@@ -1,19 +1,13 @@
--- `tally::put_in` meets its contract. The loop's invariant: the numbers before place i are as they were, and those after it have moved up by one.
-use mathlib.Core.Path.{◌∙◌}
+-- `tally::put_in` meets its contract: the lines are copied one place up, and the new one is put into the gap. Assumes nothing.
+use mathlib.Core.Path.{ap, ◌∙◌}
+use mathlib.Core.List.{List}
 use native.Mathlib.Omega.{arith}
-use lib.ListN.{length-set}
-use Rattle.tally.proofs.Moved.{moved_before, moved_after, put_there}
+use lib.ListN.{set}
+use Rattle.tally.specs.declared.Line.{Line}
+use Rattle.tally.proofs.Moved.{moved_up}
 use Rattle.tally.proofs.put_in.Goals as goal
-
-pub loop-i-preserved : goal.loop-i-preserved
-loop-i-preserved c = (
-  omega arith,
-  omega arith,
-  length-set c.loop-i.list c.loop-i.i _ ∙ c.loop-i.invariant.2,
-  moved_before c.args.list.now c.loop-i.list c.args.n c.loop-i.i (omega arith) (omega arith) (omega arith) c.loop-i.invariant.3 c.loop-i.invariant.4,
-  moved_after c.args.list.now c.loop-i.list c.args.n c.loop-i.i (omega arith) (omega arith) (omega arith) c.loop-i.invariant.3 c.loop-i.invariant.4 (omega arith),
-)
 
 pub returns : goal.returns
 returns c =
-    put_there c.args.list.now c.loop-i.list c.args.n c.loop-i.i (omega arith) (omega arith) (omega arith) c.loop-i.invariant.3 c.loop-i.invariant.4 c.args.at c.args.v (omega arith) (omega arith)
+    ap (λ (l : List Line). set l c.args.at c.args.line) c.copy_within.ensures.after
+    ∙ moved_up c.args.lines.now c.args.n c.args.at c.args.line (omega arith) (omega arith)

@@ -1,7 +1,6 @@
 -- `daf::Cursor::next` meets its contract. Assumes nothing.
 use mathlib.Core.Path.{sym, ◌∙◌}
 use Rattle.daf.proofs.Cursors.{next_here, next_seek, stands_here, stands_next}
-use borrow.Author.Rules.{rules}
 use Rattle.daf.proofs.Cursor.next.Goals as goal
 
 pub returns-then-index-count : goal.returns-then-index-count

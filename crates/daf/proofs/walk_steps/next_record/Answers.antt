@@ -2,7 +2,6 @@
 use mathlib.Core.Path.{ap, ◌∙◌}
 use lib.Ieee.{to_unsigned}
 use Rattle.daf.specs.Walk.{next_of}
-use borrow.Author.Rules.{rules}
 use Rattle.daf.proofs.walk_steps.next_record.Goals as goal
 
 pub returns : goal.returns

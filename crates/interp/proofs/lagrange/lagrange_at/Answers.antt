@@ -1,14 +1,16 @@
 -- `interp::lagrange::lagrange_at` meets its contract: the array agrees with the kernel on the first c places, and the definition reads no further. Assumes nothing.
+use mathlib.Core.Path.{refl, sym, ◌∙◌}
+use native.Mathlib.Omega.{arith}
+use Rattle.interp.proofs.Blend.{node_found, node_missing}
 use Rattle.interp.proofs.Same.{stored_at, blend_at}
-use borrow.Author.Rules.{rules}
 use Rattle.interp.proofs.lagrange.lagrange_at.Goals as goal
 
-pub returns-then-exact-c : goal.returns-then-exact-c
-returns-then-exact-c c =
-    rw c.state_at.ensures
-    (stored_at _ _ _ _ _ _ (record { same = c.epochs_at-xs.ensures }) c.node_index-exact.ensures c.if-exact-c.true)
+pub returns-in-Some : goal.returns-in-Some
+returns-in-Some c =
+    let node = node_found c.epochs_at-xs.result c.args.x c.args.c (omega arith) (sym c.in-Some.is ∙ c.node_at.ensures) in
+    rw c.state_at.ensures (stored_at _ _ _ _ _ _ (record { same = c.epochs_at-xs.ensures }) node.0 node.1)
 
-pub returns : goal.returns
-returns c =
-    rw c.blend.ensures
-    (blend_at _ _ _ _ _ _ (record { same = c.epochs_at-xs.ensures }) c.node_index-exact.ensures c.if-exact-c.false)
+pub returns-in-None : goal.returns-in-None
+returns-in-None c =
+    let none = node_missing c.epochs_at-xs.result c.args.x c.args.c (omega arith) (sym c.in-None.is ∙ c.node_at.ensures) in
+    rw c.blend.ensures (blend_at _ _ _ _ _ _ (record { same = c.epochs_at-xs.ensures }) refl none)

@@ -1,11 +1,7 @@
 -- `segment::evaluate_any` meets its contract: 12, 14, and else the segment, which fits. Assumes nothing.
 use Rattle.segment.proofs.Fit.{fitting, evaluated_unsupported, evaluated_unfit, evaluated_valued}
-use Rattle.segment.proofs.Placed.{Placed}
-use Rattle.segment.specs.Steps.{Sound}
-use Rattle.daf.specs.Addresses.{whole_doubles}
 use mir.ValLaws.{to_z-of_z}
 use mir.Syntax.{w32}
-use lib.IntN.{nat_abs}
 use mathlib.Core.Path.{sym, ◌∙◌}
 use borrow.Author.Rules.{rules}
 use Rattle.segment.proofs.evaluating.evaluate_any.Goals as goal

@@ -1,6 +1,5 @@
 -- `segment::is_three` meets its contract: the type's number is compared by its bits. Assumes nothing.
 use mathlib.Core.Path.{sym}
-use mathlib.Core.Bool.{false≢true}
 use native.Mathlib.Omega.{arith}
 use Rattle.segment.proofs.Tests.{is_type, not_type}
 use Rattle.segment.proofs.Forms.{form_three}

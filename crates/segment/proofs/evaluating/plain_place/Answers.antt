@@ -1,17 +1,12 @@
 -- `segment::plain_place` meets its contract: a record that is one of N starts within the kernel. Assumes nothing.
 use native.Mathlib.Omega.{arith}
+use mathlib.Core.Path.{refl, ◌∙◌}
 use Rattle.segment.proofs.AfterTests.{chosen_ends, place_made}
-use borrow.Author.Rules.{rules}
 use Rattle.segment.proofs.evaluating.plain_place.Goals as goal
 
-pub overflow_mul-result-2 : goal.overflow_mul-result-2
-overflow_mul-result-2 c =
-    omega (arith, chosen_ends c.args.t c.args.et c.record_of_few-r.result c.record_of_few-r.ensures c.requires.1)
+pub of-requires : goal.of-requires
+of-requires c =
+    omega (arith, chosen_ends c.args.t c.args.et c.record_of_few.result c.record_of_few.ensures c.requires.1)
 
-pub overflow_mul-result-3 : goal.overflow_mul-result-3
-overflow_mul-result-3 c =
-    omega (arith, chosen_ends c.args.t c.args.et c.record_of_few-r.result c.record_of_few-r.ensures c.requires.1)
-
-pub overflow_add-result : goal.overflow_add-result
-overflow_add-result c =
-    omega (arith, chosen_ends c.args.t c.args.et c.record_of_few-r.result c.record_of_few-r.ensures c.requires.1)
+pub returns : goal.returns
+returns c = c.of.ensures ∙ place_made c.args.start c.args.t c.args.et c.record_of_few.result _ c.record_of_few.ensures refl

@@ -1,10 +1,9 @@
 -- `segment::type3` meets its contract: the record lies within the kernel. Assumes nothing.
 use Rattle.segment.proofs.AfterTests.{record_below, record_ends, at_byte, at_word, three_answered}
-use Rattle.segment.specs.declared.Evaluated.TheVariants.{State as Answer}
+use Rattle.std.proofs.Common.{Ok}
 use Rattle.cheby.specs.Cheby.{record_for}
 use native.Mathlib.Omega.{arith}
 use mathlib.Core.Path.{ap, ◌∙◌}
-use borrow.Author.Rules.{rules}
 use Rattle.segment.proofs.evaluating.type3.Goals as goal
 
 pub type3_at-requires : goal.type3_at-requires
@@ -24,4 +23,4 @@ type3_at-requires c =
 pub returns : goal.returns
 returns c =
     let place = c.record_place-at.ensures in
-    ap Answer c.of.ensures ∙ three_answered _ _ _ _ _ _ _ _ _ _ (at_byte place) _ _ (at_word place) c.coefficients-c.ensures c.type3_at.ensures
+    ap Ok c.of.ensures ∙ three_answered _ _ _ _ _ _ _ _ _ _ (at_byte place) _ _ (at_word place) c.coefficients-c.ensures c.type3_at.ensures

@@ -1,9 +1,8 @@
 -- `segment::type9` meets its contract. Assumes nothing.
 use Rattle.segment.proofs.AfterTests.{nine_refused, nine_answered}
-use Rattle.segment.specs.declared.Evaluated.TheVariants.{State as Answer}
+use Rattle.std.proofs.Common.{Ok}
 use borrow.Author.Tests.{eq-eqb, ne_eqb}
 use mathlib.Core.Path.{sym, ap, ◌∙◌}
-use borrow.Author.Rules.{rules}
 use Rattle.segment.proofs.evaluating.type9.Goals as goal
 
 pub returns-then-window_size-eq0 : goal.returns-then-window_size-eq0
@@ -11,5 +10,5 @@ returns-then-window_size-eq0 c = nine_refused _ _ _ _ _ _ (eq-eqb _ _ (sym c.win
 
 pub returns : goal.returns
 returns c =
-    ap Answer c.of.ensures
+    ap Ok c.of.ensures
     ∙ nine_answered _ _ _ _ _ _ (ne_eqb _ _ (λ q. c.if-window_size-eq0.false (c.window_size.ensures ∙ q))) _ _ _ c.reach_at-reach.ensures c.is_stretched.ensures c.type9_at-state.ensures

@@ -1,7 +1,6 @@
 -- `segment::whole_at` meets its contract: the double's pattern, and its whole part. Assumes nothing.
 use Prim.Native.Nat.{ℕ}
 use mathlib.Core.Path.{ap, ◌∙◌}
-use borrow.Author.Rules.{rules}
 use Rattle.bits.specs.Bytes.{double_of}
 use Rattle.segment.specs.Kinds.{whole_number}
 use Rattle.segment.proofs.kinds.whole_at.Goals as goal

@@ -2,7 +2,6 @@
 use mathlib.Core.Path.{◌∙◌, sym, refl}
 use mathlib.Core.Bool.{true, false}
 use Rattle.spk.proofs.Settling.{settled_state}
-use borrow.Author.Rules.{rules}
 use Rattle.spk.proofs.Answer.of.Goals as goal
 
 pub returns-then-is_finite : goal.returns-then-is_finite

@@ -2,7 +2,6 @@
 use mathlib.Core.Path.{◌∙◌, ap}
 use Rattle.spk.specs.declared.Way.TheVariants.{Refused}
 use Rattle.spk.specs.Answers.{answer_of, refused_answer}
-use borrow.Author.Rules.{rules}
 use Rattle.spk.proofs.Answer.refused.Goals as goal
 
 pub returns : goal.returns

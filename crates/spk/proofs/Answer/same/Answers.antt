@@ -6,7 +6,6 @@ use Rattle.frame.specs.declared.State.{State}
 use Rattle.frame.specs.Framed.{j2000}
 use Rattle.frame.specs.Given.{given_of}
 use Rattle.spk.specs.Answers.{answer_of, same_answer}
-use borrow.Author.Rules.{rules}
 use Rattle.spk.proofs.Answer.same.Goals as goal
 
 pub returns : goal.returns

@@ -6,7 +6,7 @@ use mir.ValLaws.{to_z-of_z}
 use Rattle.frame.specs.declared.Given.{Given}
 use Rattle.frame.specs.Frame.{Matrix}
 use Rattle.frame.specs.Given.{turned_given}
-use Rattle.chain.specs.declared.Yielded.TheVariants as yielded
+use Rattle.std.proofs.Common.{Ok}
 use Rattle.spk.specs.Answers.{settled}
 use Rattle.spk.proofs.Single.{by_stands, by_forth, by_back, by_never}
 use borrow.Author.Rules.{rules}
@@ -19,7 +19,7 @@ pub returns-in-Forth : goal.returns-in-Forth
 returns-in-Forth c =
     let a = c.args in
     c.of.ensures
-    ∙ ap (λ (g : Given). settled a.self.way (yielded.Given g))
+    ∙ ap (λ (g : Given). settled a.self.way (Ok g))
     (c.turned.ensures ∙ ap (λ (z : ℤ). turned_given a.rot z a.self.given) (to_z-of_z w32 a.to (search rules)))
     ∙ sym (by_forth a.to a.rot a.self a.turn c.in-Forth.is)
 
@@ -27,7 +27,7 @@ pub returns-in-Back : goal.returns-in-Back
 returns-in-Back c =
     let a = c.args in
     c.of-in-Back.ensures
-    ∙ ap (λ (g : Given). settled a.self.way (yielded.Given g))
+    ∙ ap (λ (g : Given). settled a.self.way (Ok g))
     (c.turned-in-Back.ensures ∙ ap₂ (λ (m : Matrix) (z : ℤ). turned_given m z a.self.given) c.transpose-back.ensures (to_z-of_z w32 a.to (search rules)))
     ∙ sym (by_back a.to a.rot a.self a.turn c.in-Back.is)
 

@@ -1,0 +1,25 @@
+-- `cheby::SixSeries::val` meets its contract: a turn adds four terms. Assumes nothing.
+use Prim.Native.Nat.{suc, ◌+◌, ◌-◌, ◌*◌, ◌%◌}
+use mathlib.Core.Path.{◌≡◌}
+use native.Mathlib.Nat.{add-zero}
+use native.Mathlib.Omega.{arith}
+use Rattle.cheby.proofs.Laws.{six_summed, six_all}
+use Rattle.cheby.proofs.SixSeries.val.Goals as goal
+
+pub loop-i-init : goal.loop-i-init
+loop-i-init c = rw add-zero c.first_terms-z.ensures
+
+pub loop-i-preserved : goal.loop-i-preserved
+loop-i-preserved c =
+    let n = c.args.self.n in
+    let i = c.loop-i.i in
+    let j = (n - 2) % 4 + 4 * i in
+    let s₁ = six_summed _ _ _ _ _ j (omega arith) c.loop-i.invariant c.turned-z.ensures in
+    let s₂ = six_summed _ _ _ _ _ (suc j) (omega arith) s₁ c.turned-z-in-loop-i.ensures in
+    let s₃ = six_summed _ _ _ _ _ (suc (suc j)) (omega arith) s₂ c.turned-z-in-loop-i-2.ensures in
+    let s₄ = six_summed _ _ _ _ _ (suc (suc (suc j))) (omega arith) s₃ c.turned-z-in-loop-i-3.ensures in
+    let four : (n - 2) % 4 + 4 * (i + 1) ≡ suc (suc (suc (suc j))) = omega arith in
+    rw four s₄
+
+pub returns : goal.returns
+returns c = six_all _ _ _ _ _ _ (omega arith) c.loop-i.invariant

@@ -1,5 +1,0 @@
--- A walk takes at most `left` steps.
-use Rattle.lent.proofs.+walk.Given as goal
-
-abbrev pub decreases-walk : goal.decreases-walk
-decreases-walk l = l.left
