@@ -62,7 +62,12 @@ fn to_zero(
     ensures { result ≡ to_zero_by (step_by (evaluated Spk kernel.now) table.now n (first_of ix.now) (above_of ix.now)) (leg_from q) }
 {
     let from = spk::start_of(q);
-    chain::walk(|leg| step(kernel, table, ix, n, *leg), from, Leg::STEPS)
+    chain::walk(
+        table,
+        |t, leg| step(kernel, t, ix, n, *leg),
+        from,
+        Leg::STEPS,
+    )
 }
 
 // The chain: target's state to body 0, then center's, subtracted.

@@ -89,7 +89,7 @@ fn to_zero(kernel: &[u8], table: &[Segment], n: usize, q: Question) -> Result<Gi
     ensures { result ≡ to_zero (evaluated Spk kernel.now) table.now n (leg_from q) }
 {
     let from = spk::start_of(q);
-    chain::walk(|leg| step(kernel, table, n, *leg), from, Leg::STEPS)
+    chain::walk(table, |t, leg| step(kernel, t, n, *leg), from, Leg::STEPS)
 }
 
 // The chain: target's state to body 0, then center's, subtracted. A refusal on the target's walk is the chain's.

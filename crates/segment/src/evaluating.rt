@@ -222,7 +222,9 @@ pub fn value(
     }
 }
 
-// Segment number `number`, evaluated at et on the kernel lent now, by the tests themselves.
+// Segment number `number`, evaluated at et on the kernel lent now, by the tests themselves. Apart from `evaluate`, so that a segment that plainly fits needs no
+// stack for them.
+#[inline(never)]
 pub fn evaluate_any(
     kernel: &[u8],
     family: Family,

@@ -1,4 +1,4 @@
-use Rattle.std.proofs.Common.{◌∙◌, sym, rules}
+use Rattle.std.proofs.Common.{◌∙◌, sym, refl}
 use Rattle.chain.proofs.Walked.{by_over, by_more}
 use Rattle.chain.proofs.walking.+walk.Goals as goal
 
@@ -9,4 +9,4 @@ pub returns : goal.returns
 returns g t c = λ s h.
     c.walk.ensures s h
     ∙ by_more s c.args.at c.args.left c.leg_of-leg.result c.step-met.result c.advance.result
-    (sym c.is_over.ensures ∙ c.if-is_over.false) c.leg_of-leg.ensures (h _ _ (search rules)) c.advance.ensures
+    (sym c.is_over.ensures ∙ c.if-is_over.false) c.leg_of-leg.ensures (h _ _ _ refl c.step-met.ensures) c.advance.ensures
