@@ -13,6 +13,8 @@ use Rattle.index.specs.contracts.has_room as m-has-room
 use Rattle.index.specs.contracts.clear as m-clear
 use Rattle.index.specs.contracts.mirrored as m-mirrored
 use Rattle.index.specs.contracts.join as m-join
+use Rattle.index.specs.contracts.down as m-down
+use Rattle.index.specs.contracts.up as m-up
 
 module _ {M : Type 1} {𝓤 : Ura M} (𝓛 : Logic 𝓤) (mem : Memory → SProp 𝓤) (run : Routine → Fun 𝓤) where
   pub two_room_in : Determined 𝓤 m-room-in.ended (m-room-in.clauses 𝓛 mem run)
@@ -29,3 +31,10 @@ module _ {M : Type 1} {𝓤 : Ura M} (𝓛 : Logic 𝓤) (mem : Memory → SProp
 
   pub two_join : Determined 𝓤 m-join.ended (m-join.clauses 𝓛 mem run)
   two_join κs a g r r' ws ws' = alike 𝓤 (λ e e'. (refl, both (e ∙ sym e') refl))
+
+  -- of an iterator: the numbers that are left
+  pub two_down : Determined 𝓤 m-down.ended (m-down.clauses 𝓛 mem run)
+  two_down κs a g r r' ws ws' = equal 𝓤 refl
+
+  pub two_up : Determined 𝓤 m-up.ended (m-up.clauses 𝓛 mem run)
+  two_up κs a g r r' ws ws' = equal 𝓤 refl

@@ -1,15 +1,21 @@
 -- Any two answers that the contract of a public function permits are equal. Assumes nothing.
 use mathlib.Core.Path.{refl, sym, ◌∙◌}
+use mathlib.Core.Bool.{Bool}
 use mathlib.Core.List.{List}
 use Prim.Native.Nat.{ℕ}
 use seplogic.Ra.Ura.{Ura}
+use mir.Syntax.{Dict}
 use base.Logic.{SProp}
 use prog.Memory.{Memory}
 use prog.Routine.{Routine}
 use types.Logic.{Logic}
 use contract.Monad.{Fun}
+use denote.RattleType.{RattleType}
+use denote.Ref.{Bor}
+use Rattle.std.specs.Fn.{Shared}
 use Rattle.promised.specs.Promised.{Determined, DeterminedAs}
 use Rattle.promised.proofs.Alike.{alike, both, equal, first_alike, first_equal}
+use Rattle.segment.specs.declared.Segment.{Segment}
 use Rattle.lent.specs.contracts.segment_at as m-segment-at
 use Rattle.lent.specs.contracts.table_len as m-table-len
 use Rattle.lent.specs.contracts.segment_or as m-segment-or
@@ -19,6 +25,7 @@ use Rattle.lent.specs.contracts.name as m-name
 use Rattle.lent.specs.contracts.alone as m-alone
 use Rattle.lent.specs.contracts.put_segment as m-put-segment
 use Rattle.lent.specs.contracts.fill as m-fill
+use Rattle.lent.specs.contracts.mark_by as m-mark-by
 use Rattle.lent.specs.contracts.mark_all as m-mark-all
 use Rattle.lent.specs.contracts.carry_out as m-carry-out
 use Rattle.lent.specs.contracts.open as m-open
@@ -52,6 +59,10 @@ module _ {M : Type 1} {𝓤 : Ura M} (𝓛 : Logic 𝓤) (mem : Memory → SProp
 
   pub two_fill : Determined 𝓤 m-fill.ended (m-fill.clauses 𝓛 mem run)
   two_fill κs a g r r' ws ws' = alike 𝓤 (λ e e'. (refl, both (e ∙ sym e') refl))
+
+  pub two_mark_by : (R : RattleType) (tells : Shared R.Denot (Bor (List Segment) × (Segment × (ℕ × Unit {0}))) Bool) (d₁ d₂ d₃ d₄ : Dict)
+      → Determined 𝓤 (m-mark-by.ended R tells d₁ d₂ d₃ d₄) (m-mark-by.clauses R tells d₁ d₂ d₃ d₄ 𝓛 mem run)
+  two_mark_by R tells d₁ d₂ d₃ d₄ κs a g r r' ws ws' = alike 𝓤 (λ e e'. (refl, both (e ∙ sym e') refl))
 
   pub two_mark_all : Determined 𝓤 m-mark-all.ended (m-mark-all.clauses 𝓛 mem run)
   two_mark_all κs a g r r' ws ws' = alike 𝓤 (λ e e'. (refl, both (e ∙ sym e') refl))

@@ -22,3 +22,9 @@ module _ {M : Type 1} (𝓤 : Ura M) (T : Ended) where
   -- **two-answers.** Any two results that the contract permits are equal, and so is what it permits in all that is lent mutably.
   abbrev pub Determined : Clauses 𝓤 T → Type 1
   Determined c = DeterminedAs (Res T.signature) (λ κs r. r) c
+
+  -- .. where the arguments meet P, as that a function which is handed in computes some definition, or that an iterator gives some list.
+  abbrev pub DeterminedWhere : ((κs : Lfts T.signature.lifetimes) → Args T.signature κs → Type 0) → Clauses 𝓤 T → Type 1
+  DeterminedWhere P c =
+      (κs : Lfts T.signature.lifetimes) (a : Args T.signature κs) (p : P κs a) (g : (c κs a).ghost) (r r' : Res T.signature κs) (ws ws' : Lasts T κs a)
+      → ent 𝓤 (sep 𝓤 (permits c κs a g r ws) (permits c κs a g r' ws')) (fact 𝓤 ((r ≡ r') × (ws ≡ ws')))
