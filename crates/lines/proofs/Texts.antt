@@ -20,7 +20,7 @@ use Rattle.lines.specs.declared.Page.{Page}
 use Rattle.lines.specs.Written.{Written, Put}
 
 -- one text after another
-written_then : {before : List ℕ} {at : ℕ} {first second : List ℕ} {middle after : List ℕ} {next last : ℕ}
+pub written_then : {before : List ℕ} {at : ℕ} {first second : List ℕ} {middle after : List ℕ} {next last : ℕ}
     → Written before at first middle next → Written middle next second after last → Written before at (first ++ second) after last
 written_then {before} {at} {first} {second} {middle} {after} {next} {last} a b = record {
   ends = b.ends ∙ ap (λ (k : ℕ). k + length second) a.ends ∙ omega (arith, length-append first second);

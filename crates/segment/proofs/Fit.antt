@@ -137,7 +137,7 @@ module _ (f : Family) (k : List ℕ) (s : Segment) where
 
   -- so every test was passed: the addresses are in order, and the trailer's numbers right
   pub passed_tests : unsupported s.kind ≡ false → unfit f k s ≡ false
-      → (form : Form) × Placed (whole_doubles k) s.start s.end × (bad_trailer form (trailer_at k form (nat_abs s.end)) (length_of (nat_abs s.start) (nat_abs s.end)) ≡ false)
+      → (form : Form) × (form_of f s.data_type ≡ Some form) × Placed (whole_doubles k) s.start s.end × (bad_trailer form (trailer_at k form (nat_abs s.end)) (length_of (nat_abs s.start) (nat_abs s.end)) ≡ false)
       × (kind_with form (trailer_at k form (nat_abs s.end)) ≡ s.kind)
   unfolding unfit malformed kind_of
   passed_tests u e =
@@ -145,6 +145,7 @@ module _ (f : Family) (k : List ℕ) (s : Segment) where
       let d = data_right (limit_nan s.first s.last) (misplaced (whole_doubles k) s.start s.end) (bad_data k y.0 (nat_abs s.start) (nat_abs s.end))
       (ap (λ (o : Option Form). limit_nan s.first s.last || bad_form k o s.start s.end) (sym y.1) ∙ or_first (malformed_in f k s) (not (same_kind (kind_in f k s) s.kind)) e) in (
         y.0,
+        y.1,
         placed (whole_doubles k) s.start s.end d.0,
         or_second (ltb (length_of (nat_abs s.start) (nat_abs s.end)) (trailer_size y.0)) _ d.1,
         ap (λ (o : Option Form). kind_at k o (nat_abs s.end)) (sym y.1) ∙ own_kind e,
@@ -154,10 +155,10 @@ module _ (f : Family) (k : List ℕ) (s : Segment) where
   pub fitting : unsupported s.kind ≡ false → unfit f k s ≡ false → Placed (whole_doubles k) s.start s.end × Sound k (nat_abs s.start) s.kind
   fitting u e =
       let t = passed_tests u e in
-      let p = t.1 in (
+      let p = t.2 in (
         p,
-        subst (λ (x : Kind). Sound k (nat_abs s.start) x) t.3
-            (sound_form k t.0 (nat_abs s.start) (nat_abs s.end) (trailer_at k t.0 (nat_abs s.end)) p.from p.order p.within t.2),
+        subst (λ (x : Kind). Sound k (nat_abs s.start) x) t.4
+            (sound_form k t.0 (nat_abs s.start) (nat_abs s.end) (trailer_at k t.0 (nat_abs s.end)) p.from p.order p.within t.3),
       )
 
   -- ---- the evaluation

@@ -57,5 +57,5 @@ pub inside : (f : Family) (k : List ℕ) (s : Segment) (et : Float) → unsuppor
     → Inside (nat_abs s.start) (nat_abs s.end) s.kind et
 inside f k s et u e =
     let t = passed_tests f k s u e in
-    subst (λ (x : Kind). Inside (nat_abs s.start) (nat_abs s.end) x et) t.3
-    (inside_form t.0 (nat_abs s.start) (nat_abs s.end) (trailer_at k t.0 (nat_abs s.end)) et t.1.from t.1.order t.2)
+    subst (λ (x : Kind). Inside (nat_abs s.start) (nat_abs s.end) x et) t.4
+    (inside_form t.0 (nat_abs s.start) (nat_abs s.end) (trailer_at k t.0 (nat_abs s.end)) et t.2.from t.2.order t.3)

@@ -98,8 +98,11 @@ module _ (file : List ℕ) (n : ℕ) (lines : List Line) (known : ℕ) (h : Tall
       omega (arith, there i (omega arith), there j c, rises_at (suppliers_of file n) i j (suppliers_rise file n) a (omega (arith, h.many)))
 
   -- the count of a known supplier
-  pub tallied_count : (p : ℕ) → p < known → (get_or lines p no_line).count ≤ n
-  tallied_count p b = omega (arith, ap (λ (l : Line). l.count) (line_here p b), count_least file n (get_or (suppliers_of file n) p 0))
+  pub tallied_count : (p : ℕ) → p < known → (get_or lines p no_line).count ≡ count_of file n (supplier_on lines p)
+  tallied_count p b = ap (λ (l : Line). l.count) (line_here p b) ∙ ap (count_of file n) (sym (here p b))
+
+  pub tallied_most : (p : ℕ) → p < known → (get_or lines p no_line).count ≤ n
+  tallied_most p b = omega (arith, tallied_count p b, count_least file n (supplier_on lines p))
 
   -- the line of another supplier is the same after this record
   others : (s : ℕ) → (supplier_at file n ≡ s → ⊥) → line_of file (suc n) s ≡ line_of file n s
@@ -120,7 +123,7 @@ module _ (file : List ℕ) (n : ℕ) (lines : List Line) (known : ℕ) (h : Tall
       one_more : (get_or lines p no_line).count + 1 ≡ count_of file (suc n) (supplier_at file n)
       one_more =
           add-one (get_or lines p no_line).count
-          ∙ ap suc (ap (λ (l : Line). l.count) (line_here p b) ∙ ap (count_of file n) named)
+          ∙ ap suc (tallied_count p b ∙ ap (count_of file n) e)
           ∙ sym (counted_one file n)
 
       next : Tallied file (suc n) (set lines p (record { supplier = supplier_on lines p; count = (get_or lines p no_line).count + 1 })) known

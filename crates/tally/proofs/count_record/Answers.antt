@@ -8,7 +8,7 @@ use Rattle.tally.specs.declared.Line.{Line}
 use Rattle.tally.specs.Usage.{supplier_at}
 use Rattle.tally.specs.Faults.{supplier_limit}
 use Rattle.tally.specs.Steps.{supplier_on, Place, Tallied, put_in}
-use Rattle.tally.proofs.Tallying.{tallied_rising, tallied_count, tallied_again, tallied_more, tallied_new}
+use Rattle.tally.proofs.Tallying.{tallied_rising, tallied_most, tallied_again, tallied_more, tallied_new}
 use Rattle.tally.proofs.count_record.Goals.{else-at-known-via-then-at-known+else-lines-at, else-at-known-via-else-at-known, then-known-lt-SUPPLIERS, else-known-lt-SUPPLIERS}
 use Rattle.tally.proofs.count_record.Goals as goal
 
@@ -17,7 +17,7 @@ place_of-at-requires c = tallied_rising _ _ _ _ c.requires.1
 
 -- ---- where the supplier is known
 pub overflow_add-lines : goal.overflow_add-lines
-overflow_add-lines c = omega (arith, tallied_count _ _ _ _ c.requires.1 c.place_of-at.result c.if-at-known.true, c.requires.0)
+overflow_add-lines c = omega (arith, tallied_most _ _ _ _ c.requires.1 c.place_of-at.result c.if-at-known.true, c.requires.0)
 
 pub returns-then-lines-at-clause-many : goal.returns-then-lines-at-clause-many
 returns-then-lines-at-clause-many c =
